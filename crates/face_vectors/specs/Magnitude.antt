@@ -1,0 +1,6 @@
+-- Integers of bounded magnitude.
+use Rattle.std.specs.Prelude.{ℕ, ℤ, pos, neg_ℤ, ◌≤ℤ◌}
+
+-- between -m and m
+abbrev pub IsWithin : ℕ → ℤ → Type 0
+IsWithin m z = (neg_ℤ (pos m) ≤ℤ z) × (z ≤ℤ pos m)

@@ -1,0 +1,11 @@
+pub mod ClassLaws
+pub mod ComplexLaws
+pub mod FaceLaws
+pub mod FacetLaws
+pub mod FlipLaws
+pub mod GeneratedLaws
+pub mod LinkLaws
+pub mod OnceLaws
+pub mod OptionFlips
+pub mod OptionLaws
+pub mod VertexLaws

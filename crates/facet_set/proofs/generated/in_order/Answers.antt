@@ -1,0 +1,9 @@
+use Rattle.std.proofs.Common.{◌∙◌, subst, List, ℕ, IsPermutation}
+use Rattle.std.proofs.lemmas.List.Filters.{dedup_is}
+use Rattle.facet_set.proofs.GeneratedLaws.{in_order_is}
+use Rattle.facet_set.proofs.generated.in_order.Goals as goal
+
+pub returns : goal.returns
+returns c =
+    dedup_is _ _ _ c.dedup.ensures.filtered
+    ∙ in_order_is c.args.list.now c.sort_unstable.new.self.items (subst (λ (xs : List (List ℕ)). IsPermutation xs c.sort_unstable.new.self.items) c.in_ok-members.ensures.items c.sort_unstable.ensures.permutation) c.sort_unstable.ensures.sorted

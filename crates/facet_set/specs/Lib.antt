@@ -1,0 +1,12 @@
+pub mod Change
+pub mod ClassLaws
+pub mod Complex
+pub mod Connection
+pub mod FaceLaws
+pub mod Facets
+pub mod Flips
+pub mod FlipsBack
+pub mod Maps
+pub mod Numbers
+pub mod OptionLaws
+pub mod Parts

@@ -1,0 +1,15 @@
+//! Facet lists: simplicial complexes as sets of simplices of which none lies in another.
+#![tactic(auto)]
+
+mod change;
+mod facets;
+mod generated;
+mod laws;
+mod vertices;
+
+pub use change::Change;
+pub use facets::Facets;
+pub use laws::{
+    all_faces, class_chains, class_members, family_faces, flips_back, generated_faces,
+    generated_members, known_by_faces, link_faces, option_flips,
+};

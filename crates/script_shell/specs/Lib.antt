@@ -1,0 +1,10 @@
+pub mod Commands
+pub mod Exits
+pub mod Limits
+pub mod Output
+pub mod Reply
+pub mod Saturated
+pub mod State
+pub mod Stops
+pub mod Streams
+pub mod Transcript

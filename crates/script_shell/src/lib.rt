@@ -1,0 +1,21 @@
+//! The script shell: commands, the transcript of a script, and the top call from the bytes in to the bytes out.
+#![tactic(auto)]
+
+mod exit;
+mod limits;
+mod lists;
+mod reply;
+mod run;
+mod shell;
+mod stop;
+mod stream;
+#[cfg(test)]
+mod tests;
+mod transcript;
+mod words;
+
+pub use exit::Exit;
+pub use limits::Limits;
+pub use reply::Reply;
+pub use run::{run_program, run_surely};
+pub use shell::Shell;

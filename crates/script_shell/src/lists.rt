@@ -1,0 +1,48 @@
+ghost use Rattle.std.specs.Prelude.{◌≡◌, None, map, IfOk, OnOk, IfErr};
+ghost use Rattle.std.specs.List.{flat_map};
+ghost use Rattle.simplex.specs.FirstFailing.{first_failing};
+ghost use Rattle.simplex.specs.SimplexFault.{set};
+ghost use Rattle.script_shell.specs.Commands.{list_tests};
+ghost use Rattle.script_shell.specs.Stops.{StopsAt};
+ghost use Rattle.script_shell.specs.Saturated.{saturated};
+
+use crate::stop::Stop;
+use simplex::{Numbers, Simplex, Simplices};
+use std::alloc::{AllocError, Global};
+
+/// The simplices of the lists of numbers, or the first condition that a list fails.
+pub fn simplices_of(alloc: Global, lists: &[Numbers]) -> Result<Simplices, Stop>
+    ensures sets { IfOk result (λ simplices. simplices ≡ map set lists.now) }
+    ensures clean { OnOk result (first_failing (flat_map list_tests lists.now) ≡ None) }
+    ensures refused { IfErr result (λ stop. StopsAt stop (first_failing (flat_map list_tests lists.now))) }
+{
+    let mut simplices = Simplices::new(alloc);
+    for list in lists {
+        simplices.push(simplex_of(alloc, list.as_slice())?)?;
+    }
+    Ok(simplices)
+}
+
+// The simplex of the numbers, or the first condition that they fail.
+fn simplex_of(alloc: Global, numbers: &[u64]) -> Result<Simplex, Stop>
+    ensures set { IfOk result (λ simplex. simplex ≡ set numbers.now) }
+    ensures clean { OnOk result (first_failing (list_tests numbers.now) ≡ None) }
+    ensures refused { IfErr result (λ stop. StopsAt stop (first_failing (list_tests numbers.now))) }
+{
+    let labels = labels_of(alloc, numbers)?;
+    Ok(Simplex::of(&labels)?)
+}
+
+// The numbers as labels.
+fn labels_of(alloc: Global, numbers: &[u64]) -> Result<Vec<u32>, AllocError>
+    ensures { IfOk result (λ labels. labels.items ≡ map saturated numbers.now) }
+{
+    numbers.iter().map(|n| saturated(*n)).collect(alloc)
+}
+
+// The number as a u32. One that is too great becomes the greatest, which is no label either.
+fn saturated(n: u64) -> u32
+    ensures { result ≡ saturated n }
+{
+    n.min(u32::MAX as u64) as u32
+}

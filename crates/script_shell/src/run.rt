@@ -1,0 +1,156 @@
+ghost use Rattle.std.specs.Prelude.{◌≡◌, ◌≤◌, ◌<◌, ◌+◌, ◌++◌, ◌↔◌, ℕ, List, [], ◌∷◌, false, true, length, map, IfSome};
+ghost use Rattle.std.specs.String.{string_bytes};
+ghost use Rattle.run_ends.specs.Counts.{Rose};
+ghost use Rattle.run_ends.specs.Ends.{AtEnd, Grows};
+ghost use Rattle.script_shell.specs.Exits.{IsOneOf};
+ghost use Rattle.script_shell.specs.Output.{has_form, reads_input, output, refusing, usage_text};
+ghost use Rattle.script_shell.specs.Streams.{GrowsByFront, Gave, input_limit};
+ghost use Rattle.script_shell.specs.Transcript.{transcript, is_refusing};
+
+use crate::exit::Exit;
+use crate::stream::{ReadEnd, read_all, send};
+use crate::transcript::transcript;
+use crate::words::{Form, form_of};
+use run_ends::{Sink, SinkFault, Source, SureSink, SureSource};
+use std::alloc::Global;
+
+/// Does all that the program does, by the words after its name. `run` writes the transcript of the
+/// input, which has at most 16,777,216 bytes; for words of no form the usage line is written.
+/// The words and the limit are own.
+pub fn run_program<S: Source, K: Sink>(
+    alloc: Global,
+    words: &[String],
+    source: &mut S,
+    sink: &mut K,
+) -> Exit
+    requires unfinished { K.finished sink.old ≡ false }
+
+    // At Done and Refused the output of all that was left in the source was written, and the source is at its end.
+    ensures done { result ≡ Exit.Done → IfSome (S.left source.old) (λ bytes.
+        Grows (K.written sink.old) (K.written sink.new) (output (map string_bytes words.now) bytes)) }
+    ensures done_refuses_nothing { result ≡ Exit.Done → IfSome (S.left source.old) (λ bytes.
+        refusing (map string_bytes words.now) bytes ≡ false) }
+    ensures refused { result ≡ Exit.Refused → IfSome (S.left source.old) (λ bytes.
+        Grows (K.written sink.old) (K.written sink.new) (output (map string_bytes words.now) bytes)) }
+    ensures refused_refuses { result ≡ Exit.Refused → IfSome (S.left source.old) (λ bytes.
+        refusing (map string_bytes words.now) bytes ≡ true) }
+    ensures at_end { IsOneOf result (Exit.Done ∷ Exit.Refused ∷ []) → AtEnd (S.left source.new) }
+
+    // The sink is finished at Done, Refused and Usage, and at no other end.
+    ensures finished { IsOneOf result (Exit.Done ∷ Exit.Refused ∷ Exit.Usage ∷ [])
+        → K.finished sink.new ≡ true }
+    ensures unfinished { IsOneOf result (Exit.Memory ∷ Exit.ReadFault ∷ Exit.WriteFault ∷ Exit.TooLong ∷ [])
+        → K.finished sink.new ≡ false }
+
+    // Usage comes for words of no form alone, and for them no other end but Memory and WriteFault.
+    ensures usage { result ≡ Exit.Usage → Grows (K.written sink.old) (K.written sink.new) usage_text }
+    ensures no_form { result ≡ Exit.Usage → has_form (map string_bytes words.now) ≡ false }
+    ensures usage_ends { has_form (map string_bytes words.now) ≡ false
+        → IsOneOf result (Exit.Usage ∷ Exit.Memory ∷ Exit.WriteFault ∷ []) }
+    ensures usage_front { has_form (map string_bytes words.now) ≡ false
+        → GrowsByFront (K.written sink.old) (K.written sink.new) usage_text }
+
+    // Words that have no input read leave the source as it was.
+    ensures left { reads_input (map string_bytes words.now) ≡ false → S.left source.new ≡ S.left source.old }
+    ensures taken { reads_input (map string_bytes words.now) ≡ false → S.taken source.new ≡ S.taken source.old }
+    ensures faults { reads_input (map string_bytes words.now) ≡ false → S.faults source.new ≡ S.faults source.old }
+
+    // What the source gave, and the causes of the other ends.
+    ensures gave { (bytes : List ℕ)
+        × Gave (S.left source.old) (S.left source.new) (S.taken source.old) (S.taken source.new) bytes }
+    ensures read_fault { result ≡ Exit.ReadFault → Rose (S.faults source.old) (S.faults source.new) }
+    ensures write_fault { result ≡ Exit.WriteFault → Rose (K.faults sink.old) (K.faults sink.new) }
+    ensures too_long { (result ≡ Exit.TooLong) ↔ (S.taken source.old + input_limit < S.taken source.new) }
+    ensures one_more { S.taken source.new ≤ S.taken source.old + input_limit + 1 }
+
+    // What is written before an early end is a front of the output of the bytes that the source gave.
+    ensures early { reads_input (map string_bytes words.now) ≡ true
+        → IsOneOf result (Exit.Memory ∷ Exit.ReadFault ∷ Exit.WriteFault ∷ Exit.TooLong ∷ [])
+        → (bytes : List ℕ)
+        × Gave (S.left source.old) (S.left source.new) (S.taken source.old) (S.taken source.new) bytes
+        × GrowsByFront (K.written sink.old) (K.written sink.new) (output (map string_bytes words.now) bytes) }
+
+    // Where no count of faults rises and no more comes than the limit, the output is written, or memory is wanting.
+    ensures complete { has_form (map string_bytes words.now) ≡ true
+        → S.taken source.new ≤ S.taken source.old + input_limit
+        → ¬ Rose (S.faults source.old) (S.faults source.new) → ¬ Rose (K.faults sink.old) (K.faults sink.new)
+        → IsOneOf result (Exit.Done ∷ Exit.Refused ∷ Exit.Memory ∷ []) }
+    ensures usage_complete { has_form (map string_bytes words.now) ≡ false
+        → ¬ Rose (K.faults sink.old) (K.faults sink.new) → IsOneOf result (Exit.Usage ∷ Exit.Memory ∷ []) }
+{
+    match form_of(words) {
+        Form::Run => match read_all(alloc, source) {
+            Ok(bytes) => run_script(alloc, &bytes, sink),
+            Err(ReadEnd::Failed) => Exit::ReadFault,
+            Err(ReadEnd::TooLong) => Exit::TooLong,
+            Err(ReadEnd::Memory) => Exit::Memory,
+        },
+        Form::NoForm => write_usage(sink),
+    }
+}
+
+/// The same over ends that never fail: an input within the limit is answered, unless memory is wanting.
+pub fn run_surely(
+    alloc: Global,
+    words: &[String],
+    source: &mut SureSource,
+    sink: &mut SureSink,
+) -> Exit
+    requires unfinished { sink.old.finished ≡ false }
+    ensures complete { has_form (map string_bytes words.now) ≡ true
+        → length source.old.left ≤ input_limit → IsOneOf result (Exit.Done ∷ Exit.Refused ∷ Exit.Memory ∷ []) }
+    ensures output { IsOneOf result (Exit.Done ∷ Exit.Refused ∷ [])
+        → sink.new.written ≡ sink.old.written ++ output (map string_bytes words.now) source.old.left }
+    ensures usage_complete { has_form (map string_bytes words.now) ≡ false
+        → IsOneOf result (Exit.Usage ∷ Exit.Memory ∷ []) }
+{
+    run_program(alloc, words, source, sink)
+}
+
+// Writes the transcript of the bytes.
+fn run_script<K: Sink>(alloc: Global, bytes: &[u8], sink: &mut K) -> Exit
+    requires { K.finished sink.old ≡ false }
+    ensures kind { IsOneOf result (Exit.Done ∷ Exit.Refused ∷ Exit.Memory ∷ Exit.WriteFault ∷ []) }
+    ensures written { IsOneOf result (Exit.Done ∷ Exit.Refused ∷ []) → Grows (K.written sink.old) (K.written sink.new) (transcript bytes.now) }
+    ensures done { result ≡ Exit.Done → is_refusing bytes.now ≡ false }
+    ensures refused { result ≡ Exit.Refused → is_refusing bytes.now ≡ true }
+    ensures finished { IsOneOf result (Exit.Done ∷ Exit.Refused ∷ Exit.Usage ∷ [])
+        → K.finished sink.new ≡ true }
+    ensures unfinished { IsOneOf result (Exit.Memory ∷ Exit.ReadFault ∷ Exit.WriteFault ∷ Exit.TooLong ∷ [])
+        → K.finished sink.new ≡ false }
+    ensures front { GrowsByFront (K.written sink.old) (K.written sink.new) (transcript bytes.now) }
+    ensures write_fault { result ≡ Exit.WriteFault → Rose (K.faults sink.old) (K.faults sink.new) }
+    ensures complete { ¬ Rose (K.faults sink.old) (K.faults sink.new) → IsOneOf result (Exit.Done ∷ Exit.Refused ∷ Exit.Memory ∷ []) }
+{
+    let Ok(answers) = transcript(alloc, bytes) else {
+        return Exit::Memory;
+    };
+    match send(sink, answers.text.as_slice()) {
+        Ok(()) if answers.refusing => Exit::Refused,
+        Ok(()) => Exit::Done,
+        Err(SinkFault::Failed) => Exit::WriteFault,
+        Err(SinkFault::Memory) => Exit::Memory,
+    }
+}
+
+const USAGE: &[u8] = b"usage: simp run | simp replay | simp bench D N SEED\n";
+
+// Writes the usage line.
+#[tactic(auto, unfolding(crate::specs::Output::usage_text))]
+fn write_usage<K: Sink>(sink: &mut K) -> Exit
+    ensures kind { IsOneOf result (Exit.Usage ∷ Exit.Memory ∷ Exit.WriteFault ∷ []) }
+    ensures written { result ≡ Exit.Usage → Grows (K.written sink.old) (K.written sink.new) usage_text }
+    ensures finished { IsOneOf result (Exit.Done ∷ Exit.Refused ∷ Exit.Usage ∷ [])
+        → K.finished sink.new ≡ true }
+    ensures unfinished { IsOneOf result (Exit.Memory ∷ Exit.ReadFault ∷ Exit.WriteFault ∷ Exit.TooLong ∷ [])
+        → K.finished sink.new ≡ false }
+    ensures front { GrowsByFront (K.written sink.old) (K.written sink.new) usage_text }
+    ensures write_fault { result ≡ Exit.WriteFault → Rose (K.faults sink.old) (K.faults sink.new) }
+    ensures complete { ¬ Rose (K.faults sink.old) (K.faults sink.new) → IsOneOf result (Exit.Usage ∷ Exit.Memory ∷ []) }
+{
+    match send(sink, USAGE) {
+        Ok(()) => Exit::Usage,
+        Err(SinkFault::Failed) => Exit::WriteFault,
+        Err(SinkFault::Memory) => Exit::Memory,
+    }
+}

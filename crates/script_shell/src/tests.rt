@@ -1,0 +1,153 @@
+//! Runs of the program over ends in memory, and commands to a shell.
+use crate::{Exit, Limits, Shell, run_program, run_surely};
+use run_ends::{MemSink, MemSource, SureSink, SureSource};
+use script_text::{Command, Condition};
+use simplex::{Lists, Memory, Numbers};
+use std::alloc::{AllocError, Global};
+use std::test::Fail;
+
+fn words_of(alloc: Global, text: &str) -> Result<Vec<String>, AllocError> {
+    let mut words = Vec::new(alloc);
+    for word in text.split_whitespace() {
+        words.push(String::from_str(alloc, word)?)?;
+    }
+    Ok(words)
+}
+
+#[test]
+fn scripts_have_their_transcripts(rt: HostRuntime) -> Result<(), Fail> {
+    let alloc = rt.alloc();
+    let words = words_of(alloc, "run")?;
+    for (script, lines, exit) in [
+        ("", "", Exit::Done),
+        ("# only ; a comment", "", Exit::Done),
+        (
+            "show [[1,2,3],[2,1]];",
+            "[1] facets [[1,2,3]]\n",
+            Exit::Done,
+        ),
+        (
+            "show []; show [[]]; show [[],[3]];;",
+            "[1] facets []\n[2] facets [[]]\n[3] facets [[3]]\n",
+            Exit::Done,
+        ),
+        (
+            "; # no ; here\n;show [[7]] # nor ; here\n;",
+            "[1] facets [[7]]\n",
+            Exit::Done,
+        ),
+        ("show [[1,2]]", "[1] refused unended\n", Exit::Refused),
+        (
+            "show [[1,2]; show [[1]];",
+            "[1] refused syntax\n[2] facets [[1]]\n",
+            Exit::Refused,
+        ),
+        (
+            "show [[1000001]]; show [[0]]; show [[1,1]]; show [[2],[1,1,0]];",
+            "[1] refused label_range\n[2] refused label_range\n[3] refused label_twice\n[4] refused label_twice\n",
+            Exit::Refused,
+        ),
+        (
+            "show [[1,2,3,4,5,6,7,8,9,10,11,12,13]]; show [[4294967297]];",
+            "[1] refused dim_limit\n[2] refused label_range\n",
+            Exit::Refused,
+        ),
+    ] {
+        let mut source = SureSource::new(alloc, script.as_bytes(), 7)?;
+        let mut sink = SureSink::new(alloc, 7);
+        let ended = run_program(alloc, words.as_slice(), &mut source, &mut sink);
+        assert_eq!(rt; ended, exit, "at {script}");
+        assert_eq!(rt; sink.written(), lines.as_bytes(), "at {script}");
+    }
+    Ok(())
+}
+
+#[test]
+fn words_of_no_form_write_the_usage(rt: HostRuntime) -> Result<(), Fail> {
+    let alloc = rt.alloc();
+    for text in ["", "go", "run x"] {
+        let words = words_of(alloc, text)?;
+        let mut source = SureSource::new(alloc, b"show [];", 7)?;
+        let mut sink = SureSink::new(alloc, 7);
+        let ended = run_surely(alloc, words.as_slice(), &mut source, &mut sink);
+        assert_eq!(rt; ended, Exit::Usage);
+        assert_eq!(rt; ended.code(), 2);
+        assert_eq!(rt;
+            sink.written(),
+            b"usage: simp run | simp replay | simp bench D N SEED\n".as_slice()
+        );
+    }
+    Ok(())
+}
+
+#[test]
+fn a_failing_end_has_its_exit(rt: HostRuntime) -> Result<(), Fail> {
+    let alloc = rt.alloc();
+    let words = words_of(alloc, "run")?;
+    let mut source = MemSource::new(alloc, b"show [[1]];show [[2]];", 11, &[1])?;
+    let mut sink = SureSink::new(alloc, 7);
+    let ended = run_program(alloc, words.as_slice(), &mut source, &mut sink);
+    assert_eq!(rt; ended, Exit::ReadFault);
+    assert!(rt; b"[1] facets [[1]]\n".starts_with(sink.written()));
+    let mut source = SureSource::new(alloc, b"show [[1]];show [[2]];", 11)?;
+    let mut sink = MemSink::new(alloc, 7, &[0])?;
+    let ended = run_program(alloc, words.as_slice(), &mut source, &mut sink);
+    assert_eq!(rt; ended, Exit::WriteFault);
+    assert_eq!(rt; sink.written(), b"".as_slice());
+    Ok(())
+}
+
+#[test]
+fn the_limit_of_the_input_is_exact(rt: HostRuntime) -> Result<(), Fail> {
+    let alloc = rt.alloc();
+    let words = words_of(alloc, "run")?;
+    for (count, exit) in [(16_777_216, Exit::Done), (16_777_217, Exit::TooLong)] {
+        let spaces = spaces(alloc, count)?;
+        let mut source = SureSource::new(alloc, &spaces, 1_000_000)?;
+        let mut sink = SureSink::new(alloc, 7);
+        let ended = run_program(alloc, words.as_slice(), &mut source, &mut sink);
+        assert_eq!(rt; ended, exit);
+        assert_eq!(rt; sink.written(), b"".as_slice());
+    }
+    Ok(())
+}
+
+fn spaces(alloc: Global, count: usize) -> Result<Vec<u8>, AllocError> {
+    vec![in alloc; b' '; count]
+}
+
+fn lists_of(alloc: Global, numbers: &[u64]) -> Result<Lists, Memory> {
+    let mut lists = Lists::new(alloc);
+    lists.push(Numbers::from_vec(Vec::from_slice(alloc, numbers)?))?;
+    Ok(lists)
+}
+
+#[test]
+fn a_shell_answers_and_refuses(rt: HostRuntime) -> Result<(), Fail> {
+    let alloc = rt.alloc();
+    let mut shell = Shell::new(alloc, Limits::STANDARD);
+    for (numbers, text, refusal) in [
+        ([3, 1, 2].as_slice(), "facets [[1,2,3]]\n", None),
+        (
+            [5, 5].as_slice(),
+            "refused label_twice\n",
+            Some(Condition::LabelTwice),
+        ),
+        (
+            [0].as_slice(),
+            "refused label_range\n",
+            Some(Condition::LabelRange),
+        ),
+        (
+            [1; 13].as_slice(),
+            "refused dim_limit\n",
+            Some(Condition::DimLimit),
+        ),
+    ] {
+        let lists = lists_of(alloc, numbers)?;
+        let reply = shell.perform(&Command::Show { lists })?;
+        assert_eq!(rt; reply.text(), text.as_bytes());
+        assert_eq!(rt; reply.refusal(), refusal);
+    }
+    Ok(())
+}

@@ -1,0 +1,5 @@
+pub mod BytesLaws
+pub mod CommandLaws
+pub mod FrontLaws
+pub mod PartLaws
+pub mod PieceLaws

@@ -1,0 +1,9 @@
+pub mod Bytes
+pub mod Condition
+pub mod Grammar
+pub mod Laws
+pub mod Name
+pub mod Parts
+pub mod Printing
+pub mod Reading
+pub mod Tokens

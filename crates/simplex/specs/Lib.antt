@@ -1,0 +1,9 @@
+pub mod Cells
+pub mod FirstFailing
+pub mod Flip
+pub mod InOrder
+pub mod Laws
+pub mod Merge
+pub mod Members
+pub mod Simplex
+pub mod SimplexFault
