@@ -1,3 +1,4 @@
 pub mod Cutting
 pub mod Listing
+pub mod Refusals
 pub mod Streaming

@@ -4,7 +4,6 @@ pub mod Limits
 pub mod Output
 pub mod Reply
 pub mod Saturated
-pub mod State
 pub mod Stops
 pub mod Streams
 pub mod Transcript

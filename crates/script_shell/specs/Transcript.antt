@@ -5,7 +5,7 @@ use Rattle.script_text.specs.Tokens.{is_blank, is_in_comment}
 use Rattle.script_text.specs.declared.command.Command.{Command}
 use Rattle.script_shell.specs.Commands.{line, failed, state_after, reply_to}
 use Rattle.script_shell.specs.Limits.{standard}
-use Rattle.script_shell.specs.State.{State}
+use Rattle.shell_names.specs.State.{State}
 
 -- the pieces of a script: those before each ; outside comments, and the rest behind the last one
 pub record Pieces : Type 0 where

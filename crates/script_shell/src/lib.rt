@@ -1,9 +1,13 @@
 //! The script shell: commands, the transcript of a script, and the top call from the bytes in to the bytes out.
 #![tactic(auto)]
 
+mod asking;
+mod changing;
 mod exit;
 mod limits;
 mod lists;
+mod making;
+mod replies;
 mod reply;
 mod run;
 mod shell;

@@ -1,3 +1,5 @@
+use shell_names::{JOURNAL_LIMIT, WEIGHT_LIMIT};
+
 /// The limits of a shell. They are own.
 #[derive(Clone, Copy, Debug, PartialEq, Eq)]
 pub struct Limits {
@@ -13,7 +15,7 @@ impl Limits {
     /// The limits of the program, above which none may be.
     pub const STANDARD: Limits = Limits {
         names: 256,
-        weight: 8_388_608,
-        journal: 4_194_304,
+        weight: WEIGHT_LIMIT,
+        journal: JOURNAL_LIMIT,
     };
 }

@@ -7,8 +7,8 @@ ghost use Rattle.script_shell.specs.Stops.{StopsAt};
 ghost use Rattle.script_shell.specs.Saturated.{saturated};
 
 use crate::stop::Stop;
-use simplex::{Numbers, Simplex, Simplices};
-use std::alloc::{AllocError, Global};
+use simplex::{Memory, Numbers, Simplex, Simplices};
+use std::alloc::Global;
 
 /// The simplices of the lists of numbers, or the first condition that a list fails.
 pub fn simplices_of(alloc: Global, lists: &[Numbers]) -> Result<Simplices, Stop>
@@ -17,27 +17,41 @@ pub fn simplices_of(alloc: Global, lists: &[Numbers]) -> Result<Simplices, Stop>
     ensures refused { IfErr result (λ stop. StopsAt stop (first_failing (flat_map list_tests lists.now))) }
 {
     let mut simplices = Simplices::new(alloc);
+    let mut labels = Vec::new(alloc);
     for list in lists {
-        simplices.push(simplex_of(alloc, list.as_slice())?)?;
+        simplices.push(simplex_by(&mut labels, list.as_slice())?)?;
     }
     Ok(simplices)
 }
 
-// The simplex of the numbers, or the first condition that they fail.
-fn simplex_of(alloc: Global, numbers: &[u64]) -> Result<Simplex, Stop>
+/// The simplex of the numbers, or the first condition that they fail.
+pub fn simplex_of(alloc: Global, numbers: &[u64]) -> Result<Simplex, Stop>
     ensures set { IfOk result (λ simplex. simplex ≡ set numbers.now) }
     ensures clean { OnOk result (first_failing (list_tests numbers.now) ≡ None) }
     ensures refused { IfErr result (λ stop. StopsAt stop (first_failing (list_tests numbers.now))) }
 {
-    let labels = labels_of(alloc, numbers)?;
-    Ok(Simplex::of(&labels)?)
+    simplex_by(&mut Vec::new(alloc), numbers)
 }
 
-// The numbers as labels.
-fn labels_of(alloc: Global, numbers: &[u64]) -> Result<Vec<u32>, AllocError>
-    ensures { IfOk result (λ labels. labels.items ≡ map saturated numbers.now) }
+// The same by a list of labels whose room is used again.
+fn simplex_by(labels: &mut Vec<u32>, numbers: &[u64]) -> Result<Simplex, Stop>
+    ensures set { IfOk result (λ simplex. simplex ≡ set numbers.now) }
+    ensures clean { OnOk result (first_failing (list_tests numbers.now) ≡ None) }
+    ensures refused { IfErr result (λ stop. StopsAt stop (first_failing (list_tests numbers.now))) }
 {
-    numbers.iter().map(|n| saturated(*n)).collect(alloc)
+    put_labels(labels, numbers)?;
+    Ok(Simplex::of(labels.as_slice())?)
+}
+
+// The numbers as labels, in place of those that the list holds.
+fn put_labels(labels: &mut Vec<u32>, numbers: &[u64]) -> Result<(), Memory>
+    ensures { OnOk result (labels.new.items ≡ map saturated numbers.now) }
+{
+    labels.clear();
+    for n in numbers {
+        labels.push(saturated(*n))?;
+    }
+    Ok(())
 }
 
 // The number as a u32. One that is too great becomes the greatest, which is no label either.

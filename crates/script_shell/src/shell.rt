@@ -1,14 +1,23 @@
-ghost use Rattle.std.specs.Prelude.{◌≡◌, [], None, Some, IfOk, OnOk, IfErr, OnErr};
+ghost use Rattle.std.specs.Prelude.{◌≡◌, [], None, Some, map, is_some, length, IfOk, IfSome, OnOk, IfErr, OnErr};
 ghost use Rattle.std.specs.List.{flat_map};
-ghost use Rattle.script_shell.specs.Commands.{meaning, failed, state_after, reply_to};
+ghost use Rattle.simplex.specs.FirstFailing.{first_failing};
+ghost use Rattle.simplex.specs.SimplexFault.{set};
+ghost use Rattle.facet_set.specs.Complex.{generated};
+ghost use Rattle.shell_names.specs.State.{holds, entry, present};
+ghost use Rattle.script_shell.specs.Commands.{meaning, failed, state_after, reply_to, facets_reply, list_tests};
 ghost use Rattle.script_shell.specs.Limits.{IsWithinStandard};
 ghost use Rattle.script_shell.specs.Stops.{StopsAt};
 
+use crate::asking::ask;
+use crate::changing::change;
 use crate::lists::simplices_of;
+use crate::making::assign;
+use crate::replies::facets_reply;
 use crate::stop::Stop;
 use crate::{Limits, Reply};
 use facet_set::Facets;
-use script_text::{Command, put_facets};
+use script_text::{Command, Name};
+use shell_names::Names;
 use simplex::{Lists, Memory, Text};
 use std::alloc::Global;
 use std::marker::Model;
@@ -18,17 +27,17 @@ use std::marker::Model;
 pub struct Shell {
     alloc: Global,
     limits: Limits,
+    names: Names,
 }
 
 impl Model for Shell {
-    ghost use Rattle.std.specs.Prelude.{[]};
     ghost use Rattle.script_shell.specs.Limits.{IsWithinStandard};
-    ghost use Rattle.script_shell.specs.State.{State};
+    ghost use Rattle.shell_names.specs.State.{State};
     ghost use Rattle.script_shell.specs.declared.limits.Limits.{Limits};
 
     ghost Value = { State × Limits };
 
-    ghost view = { λ s. ([], s.limits) };
+    ghost view = { λ s. (s.names, s.limits) };
 
     ghost invariant = { λ s. IsWithinStandard s.limits };
 }
@@ -39,7 +48,11 @@ impl Shell {
         requires { IsWithinStandard limits }
         ensures { result ≡ ([], limits) }
     {
-        Shell { alloc, limits }
+        Shell {
+            alloc,
+            limits,
+            names: Names::new(alloc),
+        }
     }
 
     /// Does what the command says and answers it. A refused command and `Memory` change nothing.
@@ -65,22 +78,52 @@ impl Shell {
         ensures err { OnErr result (self.new ≡ self.old) }
     {
         match command {
-            Command::Show { lists } => self.show(lists),
+            Command::Show { lists } => show(self.alloc, lists),
+            Command::Make { name, maker } => {
+                assign(self.alloc, self.limits, &mut self.names, name, maker)
+            }
+            Command::Ask { name, question } => ask(self.alloc, &self.names, name, question),
+            Command::Change { name, edit } => {
+                change(self.alloc, self.limits, &mut self.names, name, edit)
+            }
         }
     }
 
-    // The complex that the lists generate.
-    fn show(&self, lists: &Lists) -> Result<Text, Stop>
-        ensures passed { OnOk result (failed self.now.1 self.now.0 (Command.Show lists.now) ≡ None) }
-        ensures text { IfOk result (λ text. text ≡ (meaning self.now.1 self.now.0 (Command.Show lists.now)).reply) }
-        ensures refused { IfErr result (λ stop. StopsAt stop (failed self.now.1 self.now.0 (Command.Show lists.now))) }
+    /// The present complex of the name. None exactly where it is not held.
+    pub fn present(&self, name: &Name) -> Result<Option<Facets>, Memory>
+        ensures held { IfOk result (λ c. is_some c ≡ holds self.now.0 name.now) }
+        ensures value { IfOk result (λ c. IfSome c (λ c. c ≡ present self.now.0 name.now)) }
     {
-        let simplices = simplices_of(self.alloc, lists.as_slice())?;
-        let facets = Facets::generated(self.alloc, simplices.as_slice())?;
-        let mut text = Text::new(self.alloc);
-        text.extend(b"facets ")?;
-        put_facets(&mut text, facets.as_slice())?;
-        text.push(b'\n')?;
-        Ok(text)
+        match self.names.present(name) {
+            Some(complex) => Ok(Some(complex.copy()?)),
+            None => Ok(None),
+        }
     }
+
+    /// The number of past complexes of the name. None exactly where it is not held.
+    pub fn past_len(&self, name: &Name) -> Option<usize>
+        ensures held { is_some result ≡ holds self.now.0 name.now }
+        ensures value { IfSome result (λ n. n ≡ length (entry self.now.0 name.now).past) }
+    {
+        self.names.past_len(name)
+    }
+
+    /// The number of future complexes of the name. None exactly where it is not held.
+    pub fn future_len(&self, name: &Name) -> Option<usize>
+        ensures held { is_some result ≡ holds self.now.0 name.now }
+        ensures value { IfSome result (λ n. n ≡ length (entry self.now.0 name.now).future) }
+    {
+        self.names.future_len(name)
+    }
+}
+
+// The complex that the lists generate.
+fn show(alloc: Global, lists: &Lists) -> Result<Text, Stop>
+    ensures passed { OnOk result (first_failing (flat_map list_tests lists.now) ≡ None) }
+    ensures text { IfOk result (λ text. text ≡ facets_reply (generated (map set lists.now))) }
+    ensures refused { IfErr result (λ stop. StopsAt stop (first_failing (flat_map list_tests lists.now))) }
+{
+    let simplices = simplices_of(alloc, lists.as_slice())?;
+    let facets = Facets::generated(alloc, simplices.as_slice())?;
+    Ok(facets_reply(alloc, &facets)?)
 }

@@ -1,3 +1,4 @@
+use flip_rules::FlipFault;
 use script_text::Condition;
 use simplex::{Memory, SimplexFault};
 use std::alloc::AllocError;
@@ -45,6 +46,24 @@ impl From<SimplexFault> for Stop {
             SimplexFault::Long { .. } => Condition::DimLimit,
             SimplexFault::Label { .. } => Condition::LabelRange,
             SimplexFault::Twice { .. } => Condition::LabelTwice,
+        })
+    }
+}
+
+impl From<FlipFault> for Stop {
+    ghost use Rattle.std.specs.Prelude.{◌≡◌};
+    ghost use Rattle.script_shell.specs.Commands.{flip_condition};
+    ghost use Rattle.script_shell.specs.declared.stop.Stop.TheVariants as stop;
+
+    ghost from_gives = { λ fault s. s ≡ stop.Refused (flip_condition fault) };
+
+    fn from(fault: FlipFault) -> Stop {
+        Stop::Refused(match fault {
+            FlipFault::NotPure => Condition::NotPure,
+            FlipFault::Size => Condition::FlipSize,
+            FlipFault::Overlap => Condition::Overlap,
+            FlipFault::Star => Condition::FlipStar,
+            FlipFault::Present => Condition::FlipPresent,
         })
     }
 }

@@ -1,7 +1,7 @@
 //! Runs of the program over ends in memory, and commands to a shell.
-use crate::{Exit, Limits, Shell, run_program, run_surely};
+use crate::{Exit, Limits, Reply, Shell, run_program, run_surely};
 use run_ends::{MemSink, MemSource, SureSink, SureSource};
-use script_text::{Command, Condition};
+use script_text::{Command, Condition, Name, read_command};
 use simplex::{Lists, Memory, Numbers};
 use std::alloc::{AllocError, Global};
 use std::test::Fail;
@@ -148,6 +148,84 @@ fn a_shell_answers_and_refuses(rt: HostRuntime) -> Result<(), Fail> {
         let reply = shell.perform(&Command::Show { lists })?;
         assert_eq!(rt; reply.text(), text.as_bytes());
         assert_eq!(rt; reply.refusal(), refusal);
+    }
+    Ok(())
+}
+
+fn answer(alloc: Global, shell: &mut Shell, command: &str) -> Result<Reply, Fail> {
+    let command = read_command(alloc, command.as_bytes())?;
+    Ok(shell.perform(&command)?)
+}
+
+fn name(text: &str) -> Result<Name, Fail> {
+    Ok(Name::of(text.as_bytes()).ok_or("no name")?)
+}
+
+const SMALL: Limits = Limits {
+    names: 2,
+    weight: 16,
+    journal: 4,
+};
+
+#[test]
+fn names_and_weights_have_limits(rt: HostRuntime) -> Result<(), Fail> {
+    let alloc = rt.alloc();
+    let mut shell = Shell::new(alloc, SMALL);
+    for (command, reply) in [
+        ("X := [[1,2],[1,3],[2,3]]", "ok 3\n"),
+        ("Y := [[1,2]]", "ok 1\n"),
+        ("Z := []", "refused names_full\n"),
+        ("Y := [[1,2],[3]]", "refused size_limit\n"),
+        ("print Y", "facets [[1,2]]\n"),
+        ("X := [[1,2],[1,3]]", "ok 2\n"),
+        ("Y := [[1,2],[3]]", "ok 2\n"),
+    ] {
+        let answered = answer(alloc, &mut shell, command)?;
+        assert_eq!(rt; answered.text(), reply.as_bytes(), "at {command}");
+    }
+    Ok(())
+}
+
+#[test]
+fn an_undo_has_the_limit_of_weights(rt: HostRuntime) -> Result<(), Fail> {
+    let alloc = rt.alloc();
+    let mut shell = Shell::new(alloc, SMALL);
+    for (command, reply) in [
+        ("C := [[1,2],[1,4],[2,3],[3,4]]", "ok 4\n"),
+        ("flip C [1] [2,4]", "ok 3\n"),
+        ("Y := [[1,2]]", "ok 1\n"),
+        ("undo C", "refused size_limit\n"),
+    ] {
+        let answered = answer(alloc, &mut shell, command)?;
+        assert_eq!(rt; answered.text(), reply.as_bytes(), "at {command}");
+    }
+    assert_eq!(rt; shell.past_len(&name("C")?), Some(1));
+    assert_eq!(rt; shell.future_len(&name("C")?), Some(0));
+    assert_eq!(rt; shell.past_len(&name("D")?), None);
+    let triangle = shell.present(&name("C")?)?.ok_or("not held")?;
+    assert_eq!(rt; triangle.as_slice().len(), 3);
+    Ok(())
+}
+
+#[test]
+fn the_future_that_an_edit_empties_does_not_count(rt: HostRuntime) -> Result<(), Fail> {
+    let alloc = rt.alloc();
+    let mut shell = Shell::new(
+        alloc,
+        Limits {
+            weight: 4096,
+            ..SMALL
+        },
+    );
+    for (command, reply) in [
+        ("S := [[1,2,3],[1,2,4],[1,3,4],[2,3,4]]", "ok 4\n"),
+        ("flip S [1,2,3] [9]", "ok 6\n"),
+        ("flip S [1,2,9] [10]", "refused journal_full\n"),
+        ("undo S", "ok 4\n"),
+        ("flip S [1,2,3] [10]", "ok 6\n"),
+    ] {
+        let answered = answer(alloc, &mut shell, command)?;
+        assert_eq!(rt; answered.text(), reply.as_bytes(), "at {command}");
     }
     Ok(())
 }

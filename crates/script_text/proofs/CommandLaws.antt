@@ -1,6 +1,7 @@
 -- A command is found from its tokens.
 use Rattle.std.proofs.Common.{◌≡◌, ℕ, Bool, true, false, cond, List, [], ◌∷◌, ◌++◌, map, drop, refl, sym, ap, ◌∙◌, Option, Some, None, append_assoc, append-nil, option_and_then}
-use Rattle.std.specs.Prelude.{◌==◌, codes}
+use Rattle.std.specs.Prelude.{◌==◌, slice_get, unwrap_or}
+use Rattle.std.specs.Option.{option_map}
 use Rattle.std.proofs.lemmas.Bool.Decides.{nat_tests}
 use Rattle.std.proofs.Common.{arith}
 use Rattle.std.specs.Cmp.Lexicographic.{bytes_decides}
@@ -9,13 +10,17 @@ use Rattle.script_text.specs.declared.token.Token.{Token}
 use Rattle.script_text.specs.declared.token.Token.TheVariants.{Word, Number, Assign, Open, Close, Comma}
 use Rattle.script_text.specs.declared.command.Command.{Command}
 use Rattle.script_text.specs.declared.command.Command.TheVariants as command
-use Rattle.script_text.specs.Grammar.{with_commas, closed, list, lists, command_tokens}
+use Rattle.script_text.specs.declared.command.Maker.TheVariants as maker
+use Rattle.script_text.specs.declared.command.Question.TheVariants as question
+use Rattle.script_text.specs.declared.command.Edit.TheVariants as edit
+use Rattle.script_text.specs.declared.verb.Verb.{Verb}
+use Rattle.script_text.specs.Grammar.{with_commas, closed, list, lists, maker_tokens, command_tokens}
 use Rattle.script_text.specs.Laws.{ReadsTheSpelled, SpelledApart}
-use Rattle.script_text.specs.Parts.{before, number, word, NoneBegins}
-use Rattle.script_text.proofs.PartLaws.{behind, bracketed_apart, list_apart, list_opens}
-use Rattle.script_text.proofs.PieceLaws.{over, over_only}
-use Rattle.script_text.specs.Reading.{same_token, same_tokens, numbers_in, guess, command_in, command_of}
-use Rattle.script_text.specs.Tokens.{tokens, is_blank, is_text}
+use Rattle.script_text.specs.Parts.{before, number, word, NoneBegins, NoneIs}
+use Rattle.script_text.proofs.PartLaws.{before_before, behind}
+use Rattle.script_text.specs.Reading.{same_token, same_tokens, numbers_in, lists_in, made, spoken, NoneSpoken, guess, checked, command_in, command_of}
+use Rattle.script_text.specs.Tokens.{tokens, is_text}
+use Rattle.script_text.specs.Verbs.{verb_of, verb_word}
 
 text_same : (v : List ℕ) → is_text v v ≡ true
 text_same v = (bytes_decides v v).1 refl
@@ -76,24 +81,42 @@ closed_found (l ∷ k ∷ ls) us =
 lists_found : (ls : List (List ℕ)) (us : List Token) → numbers_in (lists ls ++ us) ≡ ([], [] ∷ (ls ++ (numbers_in us).1))
 lists_found ls us = ap (λ (r : List ℕ × List (List ℕ)). ([], r.0 ∷ r.1)) (closed_found ls us)
 
-guessed : (c : Command) → guess (command_tokens c) ≡ c
-guessed (command.Show ls) =
-    ap (λ ts. command.Show (drop 1 (numbers_in ts).1)) (sym (append-nil (lists ls)))
-    ∙ ap (λ (r : List ℕ × List (List ℕ)). command.Show (drop 1 r.1)) (lists_found ls [])
-    ∙ ap (λ l. command.Show l) (append-nil ls)
+lists_taken : (ls : List (List ℕ)) → lists_in (lists ls) ≡ ls
+lists_taken ls = ap (λ ts. drop 1 (numbers_in ts).1) (sym (append-nil (lists ls))) ∙ ap (λ (r : List ℕ × List (List ℕ)). drop 1 r.1) (lists_found ls []) ∙ append-nil ls
+
+one_taken : (a : List ℕ) → (numbers_in (list a)).1 ≡ a ∷ []
+one_taken a = ap (λ ts. (numbers_in ts).1) (sym (append-nil (list a))) ∙ ap (λ (r : List ℕ × List (List ℕ)). r.1) (list_found a [])
+
+two_taken : (a b : List ℕ) → (numbers_in (list a ++ list b)).1 ≡ a ∷ b ∷ []
+two_taken a b = ap (λ (r : List ℕ × List (List ℕ)). r.1) (list_found a (list b)) ∙ ap (λ l. a ∷ l) (one_taken b)
+
+-- what is made of two lists
+abbrev of_two : {X : Type 0} → (List ℕ → List ℕ → X) → List (List ℕ) → Option X
+of_two f ls = Some (f (unwrap_or (slice_get ls 0) []) (unwrap_or (slice_get ls 1) []))
+
+-- each form is guessed from its tokens
+pub guessed : (c : Command) → guess (command_tokens c) ≡ Some c
+guessed (command.Show ls) = ap (λ l. Some (command.Show l)) (lists_taken ls)
+guessed (command.Make x (maker.Facets ls)) = ap (λ l. Some (command.Make x (maker.Facets l))) (lists_taken ls)
+guessed (command.Ask x question.Print) = refl
+guessed (command.Change x (edit.Flip a b)) = ap (of_two (λ a b. command.Change x (edit.Flip a b))) (two_taken a b)
+guessed (command.Change x edit.Undo) = refl
+guessed (command.Change x edit.Redo) = refl
 
 -- ---- the laws
 spelled_in : (c : Command) → command_in (command_tokens c) ≡ Some c
-spelled_in c =
-    ap (λ d. cond (same_tokens (command_tokens c) (command_tokens d)) (Some d) None) (guessed c)
-    ∙ ap (λ v. cond v (Some c) None) (tokens_same (command_tokens c))
+spelled_in c = ap (option_and_then (checked (command_tokens c))) (guessed c) ∙ ap (λ v. cond v (Some c) None) (tokens_same (command_tokens c))
+
+checked_only : (ts : List Token) (c d : Command) (v : Bool) → same_tokens ts (command_tokens d) ≡ v → cond v (Some d) None ≡ Some c → ts ≡ command_tokens c
+checked_only ts c d true e h = let g : d ≡ c = cc in tokens_one ts (command_tokens d) e ∙ ap command_tokens g
+checked_only ts c d false e h = cc
 
 in_spelled : (ts : List Token) (c : Command) → command_in ts ≡ Some c → ts ≡ command_tokens c
-in_spelled ts c h = either (same_tokens ts (command_tokens (guess ts))) refl h
+in_spelled ts c h = either (guess ts) h
   where
-    either : (v : Bool) → same_tokens ts (command_tokens (guess ts)) ≡ v → cond v (Some (guess ts)) None ≡ Some c → ts ≡ command_tokens c
-    either true e k = let g : guess ts ≡ c = cc in tokens_one ts (command_tokens (guess ts)) e ∙ ap command_tokens g
-    either false e k = cc
+    either : (g : Option Command) → option_and_then (checked ts) g ≡ Some c → ts ≡ command_tokens c
+    either None k = cc
+    either (Some d) k = checked_only ts c d (same_tokens ts (command_tokens d)) refl k
 
 of_tokens : (r : Option (List Token)) (c : Command) → option_and_then command_in r ≡ Some c → r ≡ Some (command_tokens c)
 of_tokens None c h = cc
@@ -104,7 +127,7 @@ unfolding command_of
 reads_the_spelled_lem bytes c = (of_tokens (tokens bytes) c, λ h. ap (option_and_then command_in) h ∙ spelled_in c)
 
 pub spelled_apart_lem : SpelledApart
-spelled_apart_lem c d e = sym (guessed c) ∙ ap guess e ∙ guessed d
+spelled_apart_lem c d e = let s : Some c ≡ Some d = sym (guessed c) ∙ ap guess e ∙ guessed d in cc
 
 -- where no command is spelled, none is found
 pub none_found : (bytes : List ℕ) → ((c : Command) → tokens bytes ≡ Some (command_tokens c) → ⊥) → command_of bytes ≡ None
@@ -115,20 +138,54 @@ none_found bytes h = either (command_of bytes) refl
     either None e = refl
     either (Some c) e = absurd (h c ((reads_the_spelled_lem bytes c).0 e))
 
--- ---- lists, and nothing behind them
-pub lists_apart : (xs ys : List (List ℕ)) (us vs : List Token) → lists xs ++ us ≡ lists ys ++ vs → (xs ≡ ys) × (us ≡ vs)
-lists_apart = bracketed_apart list list_apart list_opens
+-- ---- the parts of a command
+-- a command begins with a word
+pub no_word : (t : Option (List Token)) → NoneBegins word t → NoneIs command_tokens t
+no_word t h c e = either (command_tokens c) (guessed c) e
+  where
+    either : (ts : List Token) → guess ts ≡ Some c → t ≡ Some ts → ⊥
+    either [] g k = cc
+    either (Word w ∷ ts) g k = h w ts k
+    either (Number n ∷ ts) g k = cc
+    either (Assign ∷ ts) g k = cc
+    either (Open ∷ ts) g k = cc
+    either (Close ∷ ts) g k = cc
+    either (Comma ∷ ts) g k = cc
 
-pub whole_none : (t : Option (List Token)) → NoneBegins lists t → (ls : List (List ℕ)) → t ≡ Some (lists ls) → ⊥
-whole_none t h ls e = h ls [] (e ∙ ap Some (sym (append-nil (lists ls))))
+-- an assignment, by its second token
+pub no_made : (x : List ℕ) (r s : Option (List Token)) → r ≡ before (Assign ∷ []) s → NoneIs maker_tokens s → NoneIs command_tokens (before (word x) r)
+no_made x r s e h c k =
+    let b = behind (Word x ∷ Assign ∷ []) (command_tokens c) s (sym (ap (before (word x)) e ∙ before_before (word x) (Assign ∷ []) s) ∙ k) in
+    let g : Some (command.Make x (made b.0)) ≡ Some c = ap guess b.2 ∙ guessed c in
+    let d : command.Make x (made b.0) ≡ c = cc in
+    let q : Word x ∷ Assign ∷ b.0 ≡ Word x ∷ Assign ∷ maker_tokens (made b.0) = b.2 ∙ sym (ap command_tokens d) in
+    let us : b.0 ≡ maker_tokens (made b.0) = cc in
+    h (made b.0) (b.1 ∙ ap Some us)
 
-pub whole_more : (bytes rest : List ℕ) (ks : List (List ℕ)) → tokens bytes ≡ before (lists ks) (tokens rest) → is_blank rest ≡ false → (ls : List (List ℕ)) → tokens bytes ≡ Some (lists ls) → ⊥
-whole_more bytes rest ks e h ls k =
-    let b = behind (lists ks) (lists ls) (tokens rest) (sym e ∙ k) in
-    let none : b.0 ≡ [] = (lists_apart ks ls b.0 [] (b.2 ∙ sym (append-nil (lists ls)))).1 in
-    let over : is_blank rest ≡ true = over_only rest (b.1 ∙ ap Some none) in
+-- any other command, by its first word
+guess_spoken : (w : List ℕ) (ts : List Token) → ((us : List Token) → ts ≡ Assign ∷ us → ⊥) → guess (Word w ∷ ts) ≡ option_map (λ v. spoken v ts) (verb_of w)
+guess_spoken w [] h = refl
+guess_spoken w (Word x ∷ ts) h = refl
+guess_spoken w (Number n ∷ ts) h = refl
+guess_spoken w (Assign ∷ ts) h = absurd (h ts refl)
+guess_spoken w (Open ∷ ts) h = refl
+guess_spoken w (Close ∷ ts) h = refl
+guess_spoken w (Comma ∷ ts) h = refl
+
+pub no_verb : (w : List ℕ) (r : Option (List Token)) → ((us : List Token) → r ≡ Some (Assign ∷ us) → ⊥) → verb_of w ≡ None → NoneIs command_tokens (before (word w) r)
+no_verb w r h n c k =
+    let b = behind (word w) (command_tokens c) r k in
+    let g : None ≡ Some c = sym (guess_spoken w b.0 (λ us q. h us (b.1 ∙ ap Some q)) ∙ ap (option_map (λ v. spoken v b.0)) n) ∙ ap guess b.2 ∙ guessed c in
     cc
 
-pub whole_show : (bytes rest : List ℕ) (ks : List (List ℕ)) → tokens bytes ≡ before (lists ks) (tokens rest) → is_blank rest ≡ true
-    → before (word (codes "show")) (tokens bytes) ≡ Some (command_tokens (command.Show ks))
-whole_show bytes rest ks e h = ap (before (word (codes "show"))) (e ∙ ap (before (lists ks)) (over rest h) ∙ ap Some (append-nil (lists ks)))
+pub no_spoken : (w : List ℕ) (v : Verb) (r : Option (List Token)) → ((us : List Token) → r ≡ Some (Assign ∷ us) → ⊥) → verb_of w ≡ Some v → w ≡ verb_word v
+    → NoneSpoken v r → NoneIs command_tokens (before (word w) r)
+no_spoken w v r h n name s c k =
+    let b = behind (word w) (command_tokens c) r k in
+    let g : Some (spoken v b.0) ≡ Some c = sym (guess_spoken w b.0 (λ us q. h us (b.1 ∙ ap Some q)) ∙ ap (option_map (λ v. spoken v b.0)) n) ∙ ap guess b.2 ∙ guessed c in
+    let d : spoken v b.0 ≡ c = cc in
+    s b.0 b.1 (ap (λ x. Word x ∷ b.0) (sym name) ∙ b.2 ∙ sym (ap command_tokens d))
+
+-- what cannot stand behind a verb makes no command with it
+pub none_spoken : (w : List ℕ) (ts us : List Token) (t : Option (List Token)) → (t ≡ Some us → ⊥) → t ≡ Some ts → Word w ∷ ts ≡ Word w ∷ us → ⊥
+none_spoken w ts us t h e k = let same : ts ≡ us = cc in h (e ∙ ap Some same)

@@ -3,3 +3,4 @@ pub mod CommandLaws
 pub mod FrontLaws
 pub mod PartLaws
 pub mod PieceLaws
+pub mod WholeLaws

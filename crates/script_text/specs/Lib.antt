@@ -7,3 +7,4 @@ pub mod Parts
 pub mod Printing
 pub mod Reading
 pub mod Tokens
+pub mod Verbs

@@ -17,3 +17,7 @@ before ts (Some us) = Some (ts ++ us)
 -- none of the values stands, as spelled, in front of the tokens
 abbrev pub NoneBegins : {X : Type 0} → (X → List Token) → Option (List Token) → Type 0
 NoneBegins {X} spell ts = (x : X) (us : List Token) → ts ≡ Some (spell x ++ us) → ⊥
+
+-- none of the values is what the tokens spell
+abbrev pub NoneIs : {X : Type 0} → (X → List Token) → Option (List Token) → Type 0
+NoneIs {X} spell ts = (x : X) → ts ≡ Some (spell x) → ⊥

@@ -12,8 +12,10 @@ mod reading;
 #[cfg(test)]
 mod tests;
 mod token;
+mod verb;
+mod whole;
 
-pub use command::{Command, CommandFault};
+pub use command::{Command, CommandFault, Edit, Maker, Question};
 pub use condition::Condition;
 pub use laws::{reads_the_spelled, spelled_apart};
 pub use name::{NAME_LIMIT, Name};

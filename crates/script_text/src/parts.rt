@@ -84,6 +84,21 @@ fn read_comma(bytes: &[u8]) -> Option<&[u8]>
     }
 }
 
+/// The bytes behind the sign of an assignment. None exactly where that is not the first token.
+pub fn read_assign(bytes: &[u8]) -> Option<&[u8]>
+    ensures some { IfSome result (λ r. tokens bytes.now ≡ before (Token.Assign ∷ []) (tokens r.now)) }
+    ensures none { IsNone result → (us : List Token) → tokens bytes.now ≡ Some (Token.Assign ∷ us) → ⊥ }
+    ensures shorter { IfSome result (λ r. length r.now < length bytes.now) }
+{
+    let Some((token, rest)) = next_token(bytes) else {
+        return None;
+    };
+    match token {
+        Token::Assign => Some(rest),
+        _ => None,
+    }
+}
+
 // At least one number, with commas, and the bracket that closes them.
 fn read_numbers(alloc: Global, bytes: &[u8]) -> Result<Option<(Numbers, &[u8])>, Memory>
     ensures some { IfOk result (λ r. IfSome r (λ p. tokens bytes.now ≡ before (closed (map number p.0)) (tokens p.1.now))) }

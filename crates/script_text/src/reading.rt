@@ -1,13 +1,17 @@
-ghost use Rattle.std.specs.Prelude.{◌≡◌, ℕ, List, Some, None, IfOk, IfSome, IsNone, IsErrOf, codes};
-ghost use Rattle.script_text.specs.Grammar.{command_tokens, lists};
-ghost use Rattle.script_text.specs.Parts.{before, word};
-ghost use Rattle.script_text.specs.Reading.{command_of};
+ghost use Rattle.std.specs.Prelude.{◌≡◌, [], ◌∷◌, Some, None, IfOk, IfSome, IsNone, IsErrOf};
+ghost use Rattle.script_text.specs.Grammar.{command_tokens, maker_tokens};
+ghost use Rattle.script_text.specs.Parts.{before, word, NoneIs};
+ghost use Rattle.script_text.specs.Reading.{command_of, NoneSpoken};
 ghost use Rattle.script_text.specs.Tokens.{is_blank, is_in_comment, tokens};
+ghost use Rattle.script_text.specs.Verbs.{verb_word};
 ghost use Rattle.script_text.specs.declared.command.Command.{Command};
+ghost use Rattle.script_text.specs.declared.token.Token.TheVariants.{Assign, Word};
 
 use crate::bytes::is_white;
-use crate::parts::{read_lists, read_word};
-use crate::{Command, CommandFault};
+use crate::parts::{read_assign, read_word};
+use crate::verb::Verb;
+use crate::whole::{name_two_lists, whole_lists, whole_name};
+use crate::{Command, CommandFault, Edit, Maker, Name, Question};
 use simplex::Memory;
 use std::alloc::Global;
 
@@ -49,27 +53,71 @@ pub fn read_command(alloc: Global, bytes: &[u8]) -> Result<Command, CommandFault
 // The command that the bytes are, if they are one.
 fn read_form(alloc: Global, bytes: &[u8]) -> Result<Option<Command>, Memory>
     ensures some { IfOk result (λ r. IfSome r (λ c. tokens bytes.now ≡ Some (command_tokens c))) }
-    ensures none { IfOk result (λ r. IsNone r → (c : Command) → tokens bytes.now ≡ Some (command_tokens c) → ⊥) }
+    ensures none { IfOk result (λ r. IsNone r → NoneIs command_tokens (tokens bytes.now)) }
 {
     let Some((name, rest)) = read_word(bytes) else {
         return Ok(None);
     };
-    if name.as_bytes() == b"show".as_slice() {
-        return read_show(alloc, rest);
-    }
-    Ok(None)
+    read_behind(alloc, name, rest)
 }
 
-// The command `show` with what stands behind its word.
-fn read_show(alloc: Global, bytes: &[u8]) -> Result<Option<Command>, Memory>
-    ensures some { IfOk result (λ r. IfSome r (λ c. before (word (codes "show")) (tokens bytes.now) ≡ Some (command_tokens c))) }
-    ensures none { IfOk result (λ r. IsNone r → (ls : List (List ℕ)) → tokens bytes.now ≡ Some (lists ls) → ⊥) }
+// The command that begins with the word, with what stands behind it.
+fn read_behind(alloc: Global, name: Name, bytes: &[u8]) -> Result<Option<Command>, Memory>
+    ensures some { IfOk result (λ r. IfSome r (λ c. before (word name) (tokens bytes.now) ≡ Some (command_tokens c))) }
+    ensures none { IfOk result (λ r. IsNone r → NoneIs command_tokens (before (word name) (tokens bytes.now))) }
 {
-    let Some((lists, rest)) = read_lists(alloc, bytes)? else {
+    if let Some(rest) = read_assign(bytes) {
+        return read_make(alloc, name, rest);
+    }
+    match Verb::of(name.as_bytes()) {
+        Some(verb) => read_spoken(alloc, verb, bytes),
+        None => Ok(None),
+    }
+}
+
+// The assignment to the name, with what stands behind the sign.
+fn read_make(alloc: Global, name: Name, bytes: &[u8]) -> Result<Option<Command>, Memory>
+    ensures some { IfOk result (λ r. IfSome r (λ c. before (Word name ∷ Assign ∷ []) (tokens bytes.now) ≡ Some (command_tokens c))) }
+    ensures none { IfOk result (λ r. IsNone r → NoneIs maker_tokens (tokens bytes.now)) }
+{
+    let Some(maker) = read_maker(alloc, bytes)? else {
         return Ok(None);
     };
-    if !is_blank(rest) {
-        return Ok(None);
+    Ok(Some(Command::Make { name, maker }))
+}
+
+fn read_maker(alloc: Global, bytes: &[u8]) -> Result<Option<Maker>, Memory>
+    ensures some { IfOk result (λ r. IfSome r (λ m. tokens bytes.now ≡ Some (maker_tokens m))) }
+    ensures none { IfOk result (λ r. IsNone r → NoneIs maker_tokens (tokens bytes.now)) }
+{
+    Ok(whole_lists(alloc, bytes)?.map(|lists| Maker::Facets { lists }))
+}
+
+// The command with the verb, and with what stands behind its word.
+fn read_spoken(alloc: Global, verb: Verb, bytes: &[u8]) -> Result<Option<Command>, Memory>
+    ensures some { IfOk result (λ r. IfSome r (λ c. before (word (verb_word verb)) (tokens bytes.now) ≡ Some (command_tokens c))) }
+    ensures none { IfOk result (λ r. IsNone r → NoneSpoken verb (tokens bytes.now)) }
+{
+    match verb {
+        Verb::Show => Ok(whole_lists(alloc, bytes)?.map(|lists| Command::Show { lists })),
+        Verb::Print => Ok(whole_name(bytes).map(|x| ask(x, Question::Print))),
+        Verb::Flip => Ok(name_two_lists(alloc, bytes)?.map(|(x, a, b)| change(
+            x,
+            Edit::Flip { a, b },
+        ))),
+        Verb::Undo => Ok(whole_name(bytes).map(|x| change(x, Edit::Undo))),
+        Verb::Redo => Ok(whole_name(bytes).map(|x| change(x, Edit::Redo))),
     }
-    Ok(Some(Command::Show { lists }))
+}
+
+fn ask(name: Name, question: Question) -> Command
+    ensures { result ≡ Command.Ask name question }
+{
+    Command::Ask { name, question }
+}
+
+fn change(name: Name, edit: Edit) -> Command
+    ensures { result ≡ Command.Change name edit }
+{
+    Command::Change { name, edit }
 }

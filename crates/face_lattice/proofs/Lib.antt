@@ -1,0 +1,4 @@
+pub mod CellLaws
+pub mod FaceNumbers
+pub mod KeyLaws
+pub mod PutLaws

@@ -1,0 +1,15 @@
+use Rattle.std.proofs.Common.{sym, ap, ◌∙◌, is_some}
+use Rattle.script_text.specs.Grammar.{list}
+use Rattle.script_text.proofs.PartLaws.{list_apart}
+use Rattle.script_text.proofs.WholeLaws.{ends, none_front, goes_past}
+use Rattle.script_text.proofs.whole.whole_list.Goals as goal
+
+pub returns-in_default-clause-none : goal.returns-in_default-clause-none
+returns-in_default-clause-none c e = none_front list _ (c.in_ok-list.ensures.none (ap is_some c.in_default.is))
+
+pub returns-then-not-is_blank-clause-none : goal.returns-then-not-is_blank-clause-none
+returns-then-not-is_blank-clause-none c e =
+    goes_past list list_apart c.in-Some.list _ c.in-Some.rest.now (rw c.in-Some.is at c.in_ok-list.ensures.some) (sym c.is_blank.ensures ∙ c.if-not-is_blank.true)
+
+pub returns-clause-some : goal.returns-clause-some
+returns-clause-some c = ends (list c.in-Some.list) _ c.in-Some.rest.now (rw c.in-Some.is at c.in_ok-list.ensures.some) (sym c.is_blank.ensures ∙ c.if-not-is_blank.false)
