@@ -1,0 +1,7 @@
+pub mod ColumnSteps
+pub mod OnesLaws
+pub mod OrderLaws
+pub mod PlaceLaws
+pub mod RowLaws
+pub mod SpanLaws
+pub mod SumLaws
