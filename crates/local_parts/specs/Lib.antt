@@ -1,0 +1,3 @@
+pub mod Forest
+pub mod Pairs
+pub mod Pieces
