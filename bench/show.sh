@@ -1,11 +1,7 @@
 #!/usr/bin/env bash
 # Times `show` on 2, 4, 8 and 16 MB of triangles, and on as many bytes of mixed edges, triangles and tetrahedra.
 # Prints seconds of the processor, the ratio to half the size, and the greatest resident memory where /proc tells it.
-here=$(cd "$(dirname "$0")" && pwd)
-simp=$here/../simp
-work=$(mktemp -d) || exit 1
-trap 'rm -rf "$work"' EXIT
-"$simp" run </dev/null || exit 1
+. "$(dirname "$0")/common.bash"
 
 make_input() { # bytes, kind
     awk -v bytes="$1" -v kind="$2" '
@@ -23,29 +19,12 @@ make_input() { # bytes, kind
         }'
 }
 
-seconds() { # input
-    TIMEFORMAT='%U %S'
-    { time "$simp" run <"$1" >"$work/out"; } 2>&1 | awk '{ printf "%.2f", $1 + $2 }'
-}
-
-peak() { # input: megabytes
-    "$simp" run <"$1" >"$work/out" &
-    local most=0 now
-    while kill -0 "$!" 2>/dev/null; do
-        now=$(awk '/^VmHWM/ { print int($2 / 1024) }' "/proc/$!/status" 2>/dev/null)
-        [ -n "$now" ] && most=$now
-        sleep 0.02
-    done
-    echo "$most"
-}
-
 for kind in triangles mixed; do
     before=
     for mb in 2 4 8 16; do
         make_input $((mb * 1000000)) "$kind" >"$work/in"
         now=$(seconds "$work/in")
-        ratio=$(awk -v a="$before" -v b="$now" 'BEGIN { if (a == "" || a == 0) print "-"; else printf "%.2f", b / a }')
-        echo "show $kind $mb MB: $now s, ratio $ratio, peak $(peak "$work/in") MB"
+        echo "show $kind $mb MB: $now s, ratio $(ratio "$before" "$now"), peak $(peak "$work/in") MB"
         before=$now
     done
 done

@@ -1,5 +1,6 @@
-ghost use Rattle.std.specs.Prelude.{◌≡◌, ◌==◌, IfOk, length, map};
+ghost use Rattle.std.specs.Prelude.{◌≡◌, ◌≤◌, ◌==◌, IfOk, length, map};
 ghost use Rattle.std.specs.List.{filter, range_with_len};
+ghost use Rattle.facet_set.specs.Numbers.{size};
 ghost use Rattle.indexmap.specs.IndexMap.{keys};
 
 use crate::cell::Cell;
@@ -30,12 +31,13 @@ impl Model for Lattice {
 }
 
 impl Lattice {
-    ghost use Rattle.std.specs.Prelude.{◌≡◌, ◌↔◌, ◌<◌, false, IfOk, IsSome, IsTrue, length, slice_get};
+    ghost use Rattle.std.specs.Prelude.{◌≡◌, ◌↔◌, ◌<◌, ◌≤◌, false, IfOk, IsSome, IsTrue, length, slice_get};
+    ghost use Rattle.std.specs.List.{list_all};
     ghost use Rattle.std.specs.Option.{option_copied};
     ghost use Rattle.simplex.specs.Simplex.{is_simplex};
     ghost use Rattle.facet_set.specs.Complex.{is_face};
     ghost use Rattle.facet_set.specs.Flips.{link_vertices};
-    ghost use Rattle.facet_set.specs.Numbers.{degree, face_count, faces_of_size};
+    ghost use Rattle.facet_set.specs.Numbers.{degree, face_count, faces_of_size, size};
     ghost use Rattle.face_lattice.specs.Cells.{kept_at};
 
     /// The lattice of a complex.
@@ -50,6 +52,15 @@ impl Lattice {
             cells,
             counts,
         })
+    }
+
+    /// The number of labels of the largest facet: the dimension and one, or 0 where there is no facet.
+    pub fn size(&self) -> usize
+        ensures value { result ≡ size self.now }
+        ensures bound { result ≤ 12 }
+        ensures simplices { IsTrue (list_all is_simplex self.now) }
+    {
+        largest(&self.facets)
     }
 
     /// Whether the simplex is a face, that is, lies in a facet.
@@ -116,6 +127,18 @@ impl Lattice {
         prove!(s.len() <= LEN_LIMIT);
         self.cells.get(s)
     }
+}
+
+// The number of labels of the largest.
+fn largest(facets: &[Simplex]) -> usize
+    ensures value { result ≡ size facets.now }
+    ensures bound { result ≤ 12 }
+{
+    let mut largest = 0;
+    for s in facets {
+        largest = s.len().max(largest);
+    }
+    largest
 }
 
 // The numbers of faces with 0, 1, .. labels.

@@ -1,4 +1,4 @@
-ghost use Rattle.std.specs.Prelude.{◌≡◌, ◌≤◌, ◌<◌, ◌^◌, map, pos};
+ghost use Rattle.std.specs.Prelude.{◌≡◌, ◌≤◌, ◌^◌, map, pos};
 ghost use Rattle.face_vectors.specs.Vectors.{signed, alternating, count_of_size, h_term, h_of, g_of, h_vector_of, g_vector_of};
 ghost use Rattle.face_vectors.specs.Counts.{numbers, IsWithinLimits};
 ghost use Rattle.face_vectors.specs.Row.{entries};

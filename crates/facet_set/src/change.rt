@@ -1,10 +1,9 @@
 ghost use Rattle.std.specs.Prelude.{◌≡◌, ◌+◌, length, not, IfOk};
 ghost use Rattle.std.specs.List.{filter};
-ghost use Rattle.facet_set.specs.Complex.{stands_in};
 ghost use Rattle.facet_set.specs.Change.{only_in};
 
 use crate::Facets;
-use simplex::{Memory, Simplex, Simplices};
+use simplex::{Memory, Simplices};
 use std::alloc::Global;
 
 /// What one complex has and another has not, and the other way round, each in increasing order.

@@ -1,5 +1,5 @@
 // The members of a list that lie properly in no other.
-ghost use Rattle.std.specs.Prelude.{◌≡◌, ◌≤◌, ◌<◌, ◌^◌, ◌==◌, ◌&&◌, ◌||◌, not, false, true, nat_le, nat_eq, length, ℕ, List, IfOk, OnOk, IsTrue};
+ghost use Rattle.std.specs.Prelude.{◌≡◌, ◌≤◌, ◌<◌, ◌==◌, ◌&&◌, ◌||◌, not, true, nat_eq, length, ℕ, List, IfOk, OnOk, IsTrue};
 ghost use Rattle.std.specs.List.{list_all, filter};
 ghost use Rattle.std.specs.HashSet.{contains};
 ghost use Rattle.std.specs.Cmp.Lexicographic.{pointwise};

@@ -3,7 +3,6 @@ use Rattle.std.proofs.Common.{◌≡◌, ℕ, suc, ◌+◌, Bool, true, false, n
 use Rattle.std.specs.Prelude.{◌==◌}
 use Rattle.std.specs.List.{list_all}
 use Rattle.std.proofs.lemmas.Cmp.{nat_list_cmp_total, lists_total}
-use Rattle.std.proofs.lemmas.Bool.Decides.{nat_tests}
 use Rattle.simplex.specs.InOrder.{is_increasing}
 use Rattle.simplex.specs.Simplex.{has, is_within, is_disjoint, union, without, simplex_cmp, is_simplex}
 use Rattle.simplex.proofs.Filled.{rising_of}
@@ -17,17 +16,7 @@ use Rattle.facet_set.proofs.ComplexLaws.{exact, is_set, from_simplices}
 use Rattle.facet_set.proofs.FlipLaws.{pure_at, in_ball, from_ball, length-union, length-without, same_list}
 use Rattle.flip_rules.specs.Star.{lies_in_join, is_counted_star}
 use Rattle.flip_rules.proofs.Counting.{same_count, count-put}
-
-agree : (v w : Bool) → (v ≡ true → w ≡ true) → (w ≡ true → v ≡ true) → v ≡ w
-agree true w f g = sym (f refl)
-agree false true f g = g refl
-agree false false f g = refl
-
-number : (m n : ℕ) → (m == n) ≡ true → m ≡ n
-number m n e = grind (arith, nat_tests)
-
-numbers : (m n : ℕ) → m ≡ n → (m == n) ≡ true
-numbers m n e = grind (arith, nat_tests)
+use Rattle.flip_rules.proofs.Decided.{agree, number, numbers}
 
 -- ---- the members of a ball
 

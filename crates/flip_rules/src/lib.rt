@@ -1,15 +1,19 @@
-//! The plain rule of bistellar flips, by scans of a facet list.
+//! The plain rule of bistellar flips, by scans of a facet list, and all allowed flips of a class, by counting at the faces.
 #![tactic(auto)]
 
 mod checking;
 mod flip_fault;
 mod flipping;
 mod laws;
+mod listing;
 mod parts;
+mod tallies;
+mod tally;
 #[cfg(test)]
 mod tests;
 
 pub use checking::check;
 pub use flip_fault::FlipFault;
 pub use flipping::apply;
-pub use laws::undone_by_inverse;
+pub use laws::{one_counterpart, star_by_counts, undone_by_inverse};
+pub use listing::options;

@@ -1,4 +1,5 @@
 pub mod ColumnSteps
+pub mod KernelLaws
 pub mod OnesLaws
 pub mod OrderLaws
 pub mod PlaceLaws

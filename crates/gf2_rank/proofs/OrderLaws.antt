@@ -69,7 +69,7 @@ module _ {X : Type 0} {cmp : X → X → Ordering} (o : IsTotalOrder cmp) (exact
   empty_same (x ∷ s) [] h = cc (h x, ap (λ v. v || is_member cmp x s) (itself o x))
   empty_same (x ∷ s) (y ∷ t) h = refl
 
-  span_same : (ts : List (List X)) (s t : List X) → ((q : X) → is_member cmp q s ≡ is_member cmp q t) → is_in_span cmp ts s ≡ is_in_span cmp ts t
+  pub span_same : (ts : List (List X)) (s t : List X) → ((q : X) → is_member cmp q s ≡ is_member cmp q t) → is_in_span cmp ts s ≡ is_in_span cmp ts t
   span_same [] s t h = empty_same s t h
   span_same (u ∷ ts) s t h =
       ap (λ v. v || is_in_span cmp ts (difference cmp s u)) (span_same ts s t h)

@@ -42,8 +42,8 @@ odd_some false b h = inr h
 
 module _ {X : Type 0} {cmp : X → X → Ordering} (o : IsTotalOrder cmp) (exact : IsAntisymmetric cmp) where
   -- the members of the sets are among the rows
-  record IsInside (ts : List (List X)) (rows : List X) : Type 0 where
-    inside : (s : List X) (q : X) → In s ts → is_member cmp q s ≡ true → In q rows
+  pub record IsInside (ts : List (List X)) (rows : List X) : Type 0 where
+    pub inside : (s : List X) (q : X) → In s ts → is_member cmp q s ≡ true → In q rows
 
   other_rows : X → List X → List X
   other_rows p rows = filter (λ q. not (eq_by_cmp cmp p q)) rows
@@ -53,7 +53,7 @@ module _ {X : Type 0} {cmp : X → X → Ordering} (o : IsTotalOrder cmp) (exact
   fewer_rows p rows i = one_gone (λ q. not (eq_by_cmp cmp p q)) p rows i (ap not (itself o p))
 
   -- a set that is cleared has no more rows, and not the row that was cleared
-  cleared_rows : (p : X) (u t rows : List X) (q : X) → is_member cmp p u ≡ true → ((r : X) → is_member cmp r u ≡ true → In r rows) → ((r : X) → is_member cmp r t ≡ true → In r rows)
+  pub cleared_rows : (p : X) (u t rows : List X) (q : X) → is_member cmp p u ≡ true → ((r : X) → is_member cmp r u ≡ true → In r rows) → ((r : X) → is_member cmp r t ≡ true → In r rows)
       → is_member cmp q (cleared cmp p u t) ≡ true → In q rows
   cleared_rows p u t rows q h f g =
       elim (is_member cmp p t) as (λ v. is_member cmp q (cond v (difference cmp t u) t) ≡ true → In q rows) [
@@ -61,7 +61,7 @@ module _ {X : Type 0} {cmp : X → X → Ordering} (o : IsTotalOrder cmp) (exact
         | false ↦ λ e. g q e
       ]
 
-  cleared_row : (p : X) (u t : List X) → is_member cmp p u ≡ true → is_member cmp p (cleared cmp p u t) ≡ false
+  pub cleared_row : (p : X) (u t : List X) → is_member cmp p u ≡ true → is_member cmp p (cleared cmp p u t) ≡ false
   cleared_row p u t h =
       elim (is_member cmp p t) as (λ v. is_member cmp p t ≡ v → is_member cmp p (cond v (difference cmp t u) t) ≡ false) [
         | true ↦ λ e. is_member-difference o exact p t u ∙ ap (λ v. odd v (is_member cmp p u)) e ∙ ap (odd true) h
@@ -98,7 +98,7 @@ module _ {X : Type 0} {cmp : X → X → Ordering} (o : IsTotalOrder cmp) (exact
       }) in
       omega arith
 
-  within : (m : ℕ) (ts : List (List X)) (rows : List X) → length ts ≡ m → IsInside ts rows → rank cmp ts ≤ length rows
+  pub within : (m : ℕ) (ts : List (List X)) (rows : List X) → length ts ≡ m → IsInside ts rows → rank cmp ts ≤ length rows
   within m [] rows e f = omega arith
   within zero (t ∷ ts) rows e f = absurd (omega arith)
   within (suc m) (t ∷ ts) rows e f =

@@ -1,5 +1,5 @@
 // The classes of facets.
-ghost use Rattle.std.specs.Prelude.{◌≡◌, ◌++◌, ◌↔◌, ◌⊎◌, ℕ, List, Some, Err, false, nat_eq, map, length, slice_index_or, IfOk, IfErr, OnOk, IsTrue};
+ghost use Rattle.std.specs.Prelude.{◌≡◌, ◌++◌, ◌↔◌, ◌⊎◌, ℕ, List, Some, Err, false, nat_eq, map, IfOk, IfErr, OnOk, IsTrue};
 ghost use Rattle.std.specs.HashMap.{get};
 ghost use Rattle.std.specs.Cmp.Lexicographic.{pointwise};
 ghost use Rattle.simplex.specs.Simplex.{without};

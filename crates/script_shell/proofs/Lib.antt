@@ -1,4 +1,9 @@
+pub mod Betti
+pub mod Constructions
 pub mod Cutting
+pub mod FaceCounts
 pub mod Listing
+pub mod Makers
 pub mod Refusals
+pub mod Renaming
 pub mod Streaming

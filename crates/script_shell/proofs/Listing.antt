@@ -36,10 +36,10 @@ failing_map g ((false, f) ∷ ts) = refl
 label_saturated : (a : ℕ) → is_label (saturated a) ≡ is_label a
 label_saturated a = grind (arith, nat_tests)
 
-label_small : (a : ℕ) → is_label a ≡ true → a ≤ 1000000
+pub label_small : (a : ℕ) → is_label a ≡ true → a ≤ 1000000
 label_small a h = grind (arith, nat_tests)
 
-small_saturated : (a : ℕ) → a ≤ 1000000 → saturated a ≡ a
+pub small_saturated : (a : ℕ) → a ≤ 1000000 → saturated a ≡ a
 small_saturated a h = omega arith
 
 equals_saturated : (a b : ℕ) → a ≤ 1000000 → eqb a (saturated b) ≡ eqb a b
@@ -119,6 +119,13 @@ pub set_of : (numbers s : List ℕ) → Ok s ≡ simplex_of (map saturated numbe
 set_of numbers s h =
     let r = from_ok (simplex_fault (map saturated numbers)) (set (map saturated numbers)) s h in
     r.1 ∙ ap set (same_numbers numbers (sym (fault_saturated numbers) ∙ r.0))
+
+-- and that they are no others
+pub faultless_of : (numbers s : List ℕ) → Ok s ≡ simplex_of (map saturated numbers) → simplex_fault numbers ≡ None
+faultless_of numbers s h = sym (fault_saturated numbers) ∙ (from_ok (simplex_fault (map saturated numbers)) (set (map saturated numbers)) s h).0
+
+pub same_of : (numbers s : List ℕ) → Ok s ≡ simplex_of (map saturated numbers) → map saturated numbers ≡ numbers
+same_of numbers s h = same_numbers numbers (faultless_of numbers s h)
 
 pub clean_of : (numbers s : List ℕ) → Ok s ≡ simplex_of (map saturated numbers) → first_failing (list_tests numbers) ≡ None
 clean_of numbers s h =

@@ -1,18 +1,38 @@
 -- Each command: its conditions in order, the state after it and the reply.
-use Rattle.std.specs.Prelude.{ℕ, Bool, ◌||◌, List, [], ◌∷◌, ◌++◌, map, length, Option, Some, None, codes, decimal, nat_lt, nat_le}
-use Rattle.std.specs.List.{flat_map}
+use Rattle.std.specs.Prelude.{ℕ, ◌+◌, ℤ, pos, Bool, ◌||◌, ◌&&◌, ◌==◌, slice_index_or, not, List, [], ◌∷◌, ◌++◌, map, length, Option, Some, None, codes, decimal, nat_lt, nat_le, if◌then◌else◌}
+use Rattle.std.specs.Fmt.{signed_decimal}
+use Rattle.std.specs.List.{flat_map, list_all}
 use Rattle.simplex.specs.FirstFailing.{first_failing}
+use Rattle.simplex.specs.Simplex.{is_label}
 use Rattle.simplex.specs.SimplexFault.{set, simplex_tests}
 use Rattle.simplex.specs.declared.flip.Flip.{Flip}
 use Rattle.simplex.specs.declared.simplex_fault.SimplexFault.{SimplexFault}
 use Rattle.simplex.specs.declared.simplex_fault.SimplexFault.TheVariants.{Long, Label, Twice}
-use Rattle.facet_set.specs.Complex.{generated}
+use Rattle.facet_set.specs.Complex.{generated, is_face, stands_in}
+use Rattle.facet_set.specs.Connection.{components, is_closed, is_strong}
 use Rattle.facet_set.specs.Flips.{flip}
+use Rattle.facet_set.specs.Numbers.{degree, f_vector, faces_of_size, is_pure}
+use Rattle.facet_set.specs.Parts.{boundary, deletion, link, skeleton, star}
+use Rattle.facet_set.specs.Maps.{image}
+use Rattle.betti_tables.specs.Ranks.{betti_vector}
+use Rattle.gf2_rank.specs.Matrix.{side_limit}
+use Rattle.constructions.specs.Cyclic.{cyclic, cyclic_limits}
+use Rattle.constructions.specs.Gluing.{handle, handle_tests, sum_of, sum_tests}
+use Rattle.constructions.specs.Joins.{cone, fit_tests, join, point, suspension, two_points}
+use Rattle.constructions.specs.Relabelling.{is_renaming}
+use Rattle.constructions.specs.Spheres.{bdcross, bdsimplex, sphere_tests}
+use Rattle.constructions.specs.Stacked.{stacked, stacked_limits}
+use Rattle.constructions.specs.declared.make_fault.MakeFault.{MakeFault}
+use Rattle.constructions.specs.declared.make_fault.MakeFault.TheVariants as make
+use Rattle.collapse_moves.specs.Collapses.{add_face, collapse, drop_face, free_tests}
+use Rattle.collapse_moves.specs.declared.free_fault.FreeFault.{FreeFault}
+use Rattle.collapse_moves.specs.declared.free_fault.FreeFault.TheVariants as free
+use Rattle.face_vectors.specs.Vectors.{alternating, g_vector_of, h_vector_of}
 use Rattle.flip_rules.specs.Tests.{flip_tests}
 use Rattle.flip_rules.specs.declared.flip_fault.FlipFault.{FlipFault}
 use Rattle.flip_rules.specs.declared.flip_fault.FlipFault.TheVariants as fault
 use Rattle.script_text.specs.Condition.{condition_name}
-use Rattle.script_text.specs.Printing.{facets_text}
+use Rattle.script_text.specs.Printing.{facets_text, integers_text}
 use Rattle.script_text.specs.declared.command.Command.{Command}
 use Rattle.script_text.specs.declared.command.Command.TheVariants as command
 use Rattle.script_text.specs.declared.command.Maker.{Maker}
@@ -48,6 +68,17 @@ facets_reply c = line (codes "facets " ++ facets_text c)
 abbrev pub ok_reply : Complex → List ℕ
 ok_reply c = line (codes "ok " ++ decimal (length c))
 
+-- the replies that show a number, and a list of numbers, behind a word and its space
+abbrev pub number_reply : List ℕ → ℤ → List ℕ
+number_reply word z = line (word ++ signed_decimal z)
+
+abbrev pub numbers_reply : List ℕ → List ℤ → List ℕ
+numbers_reply word zs = line (word ++ integers_text zs)
+
+-- the reply that says yes or no behind a word and its space
+abbrev pub yes_or_no : List ℕ → Bool → List ℕ
+yes_or_no word b = line (word ++ (if b then codes "yes" else codes "no"))
+
 -- ---- conditions of several commands
 
 -- the condition that a list of numbers with this fault fails
@@ -68,6 +99,18 @@ name_test s x = (holds s x, condition.NoName)
 abbrev pub room_test : Limits → State → List ℕ → Test
 room_test limits s x = (holds s x || nat_lt (length s) limits.names, condition.NamesFull)
 
+-- there is a facet
+abbrev pub void_test : Complex → Test
+void_test c = (nat_lt 0 (length c), condition.Void)
+
+-- each of the complexes has a facet, and then each is pure
+abbrev pub pure_tests : List Complex → List Test
+pure_tests cs = map void_test cs ++ map (λ c. (is_pure c, condition.NotPure)) cs
+
+-- the list is a face
+abbrev pub face_test : Complex → List ℕ → Test
+face_test c face = (is_face c (set face), condition.NotFace)
+
 -- the weights of all present complexes are within the limit
 abbrev pub weight_test : Limits → State → Test
 weight_test limits s = (nat_le (total_weight s) limits.weight, condition.SizeLimit)
@@ -78,6 +121,31 @@ journal_test limits s = (nat_le (journal s) limits.journal, condition.JournalFul
 
 -- ---- assignments
 
+-- the condition that a construction with this fault fails (want of memory stands beside no test)
+abbrev pub make_condition : MakeFault → Condition
+make_condition make.Range = condition.Range
+make_condition make.DimLimit = condition.DimLimit
+make_condition make.LabelRange = condition.LabelRange
+make_condition make.NotPure = condition.NotPure
+make_condition make.DimDiffers = condition.DimDiffers
+make_condition make.NotFacet = condition.NotFacet
+make_condition make.NotMap = condition.NotMap
+make_condition make.Overlap = condition.Overlap
+make_condition (make.Near v) = condition.Near
+make_condition make.Size = condition.SizeLimit
+make_condition make.Memory = condition.SizeLimit
+
+-- the conditions of a construction
+abbrev pub make_tests : List (Bool × MakeFault) → List Test
+make_tests ts = map (λ t. (t.0, make_condition t.1)) ts
+
+-- whether the list is a label and the one that it becomes, and the two
+abbrev pub is_pair : List ℕ → Bool
+is_pair l = length l == 2
+
+abbrev pub pair_of : List ℕ → ℕ × ℕ
+pair_of l = (slice_index_or l 0 0, slice_index_or l 1 0)
+
 -- what a maker asks of the names that it speaks of and of its lists, its own conditions, and the complex that it makes
 pub record Making : Type 0 where
   pub names : List (List ℕ)
@@ -85,8 +153,39 @@ pub record Making : Type 0 where
   pub own : List Test
   pub complex : Complex
 
-abbrev pub making : Maker → Making
-making (maker.Facets lists) = record { names = []; lists = lists; own = []; complex = generated (map set lists) }
+abbrev pub making : State → Maker → Making
+making s (maker.Facets lists) = record { names = []; lists = lists; own = []; complex = generated (map set lists) }
+making s (maker.Copy x) = record { names = x ∷ []; lists = []; own = []; complex = present s x }
+making s (maker.Link x face) = record { names = x ∷ []; lists = face ∷ []; own = face_test (present s x) face ∷ []; complex = link (present s x) (set face) }
+making s (maker.Star x face) = record { names = x ∷ []; lists = face ∷ []; own = face_test (present s x) face ∷ []; complex = star (present s x) (set face) }
+making s (maker.Deletion x face) = record { names = x ∷ []; lists = face ∷ []; own = face_test (present s x) face ∷ []; complex = deletion (present s x) (set face) }
+making s (maker.Boundary x) = record { names = x ∷ []; lists = []; own = pure_tests (present s x ∷ []); complex = boundary (present s x) }
+making s (maker.Skeleton x k) = record { names = x ∷ []; lists = []; own = []; complex = skeleton (present s x) k }
+making s (maker.BdSimplex d) = record { names = []; lists = []; own = make_tests (sphere_tests d); complex = bdsimplex d }
+making s (maker.BdCross d) = record { names = []; lists = []; own = make_tests (sphere_tests d); complex = bdcross d }
+making s (maker.Cyclic k n) = record { names = []; lists = []; own = make_tests (cyclic_limits k n); complex = cyclic k n }
+making s (maker.Stacked d n seed) = record { names = []; lists = []; own = make_tests (stacked_limits d n); complex = stacked d n seed }
+making s (maker.Join x y) = record { names = x ∷ y ∷ []; lists = []; own = make_tests (fit_tests (present s x) (present s y)); complex = join (present s x) (present s y) }
+making s (maker.Cone x) = record { names = x ∷ []; lists = []; own = make_tests (fit_tests (present s x) point); complex = cone (present s x) }
+making s (maker.Suspension x) = record { names = x ∷ []; lists = []; own = make_tests (fit_tests (present s x) two_points); complex = suspension (present s x) }
+making s (maker.Sum x f y g) =
+    record {
+      names = x ∷ y ∷ [];
+      lists = f ∷ g ∷ [];
+      own = map void_test (present s x ∷ present s y ∷ []) ++ make_tests (sum_tests (present s x) f (present s y) g);
+      complex = sum_of (present s x) f (present s y) g;
+    }
+making s (maker.Handle x f g) =
+    record { names = x ∷ []; lists = f ∷ g ∷ []; own = void_test (present s x) ∷ make_tests (handle_tests (present s x) f g); complex = handle (present s x) f g }
+making s (maker.Relabel x lists) =
+    record {
+      names = x ∷ [];
+      lists = [];
+      own = (list_all is_pair lists && is_renaming (map pair_of lists) (present s x), condition.NotMap)
+          ∷ (list_all (λ p. is_label p.1) (map pair_of lists), condition.LabelRange)
+          ∷ [];
+      complex = image (map pair_of lists) (present s x);
+    }
 
 -- the conditions before those on the state after the assignment
 abbrev pub making_tests : Limits → State → List ℕ → Making → List Test
@@ -110,9 +209,33 @@ pub record Asking : Type 0 where
 
 abbrev pub asking : Complex → Question → Asking
 asking c question.Print = record { lists = []; own = []; reply = facets_reply c }
+asking c question.Fvec = record { lists = []; own = []; reply = numbers_reply (codes "fvec ") (map pos (f_vector c)) }
+asking c question.Hvec = record { lists = []; own = void_test c ∷ []; reply = numbers_reply (codes "hvec ") (h_vector_of (f_vector c)) }
+asking c question.Gvec = record { lists = []; own = void_test c ∷ []; reply = numbers_reply (codes "gvec ") (g_vector_of (f_vector c)) }
+asking c question.Euler = record { lists = []; own = []; reply = number_reply (codes "euler ") (alternating (f_vector c)) }
+asking c (question.Faces k) = record { lists = []; own = []; reply = line (codes "faces " ++ facets_text (faces_of_size c (k + 1))) }
+asking c (question.Degree face) =
+    record {
+      lists = face ∷ [];
+      own = face_test c face ∷ [];
+      reply = number_reply (codes "degree ") (pos (degree c (set face)));
+    }
+asking c question.Components = record { lists = []; own = []; reply = number_reply (codes "components ") (pos (components c)) }
+asking c question.Closed = record { lists = []; own = pure_tests (c ∷ []); reply = yes_or_no (codes "closed ") (is_closed c) }
+asking c question.Strong = record { lists = []; own = pure_tests (c ∷ []); reply = yes_or_no (codes "strong ") (is_strong c) }
+asking c question.Betti =
+    record {
+      lists = [];
+      own = (list_all (λ n. nat_le n side_limit) (f_vector c), condition.RankLimit) ∷ [];
+      reply = numbers_reply (codes "betti ") (betti_vector c);
+    }
+
+-- the conditions of a question, without that on the name
+abbrev pub asking_tests : Asking → List Test
+asking_tests a = flat_map list_tests a.lists ++ a.own
 
 abbrev pub answering : State → List ℕ → Asking → Meaning
-answering s x a = record { tests = name_test s x ∷ flat_map list_tests a.lists ++ a.own; after = s; reply = a.reply }
+answering s x a = record { tests = name_test s x ∷ asking_tests a; after = s; reply = a.reply }
 
 -- ---- changes
 
@@ -140,9 +263,44 @@ abbrev pub flipping : Complex → List ℕ → List ℕ → Editing
 flipping c a b =
     record {
       lists = a ∷ b ∷ [];
-      own = (nat_lt 0 (length c), condition.Void) ∷ map (λ t. (t.0, flip_condition t.1)) (flip_tests c (flip_of a b));
+      own = void_test c ∷ map (λ t. (t.0, flip_condition t.1)) (flip_tests c (flip_of a b));
       complex = flip c (set a) (set b);
       reply = ok_reply (flip c (set a) (set b));
+    }
+
+-- the simplex comes as a facet, and the facets that lie in it go
+abbrev pub adding : Complex → List ℕ → Editing
+adding c face =
+    record {
+      lists = face ∷ [];
+      own = (not (is_face c (set face)), condition.IsFace) ∷ [];
+      complex = add_face c (set face);
+      reply = ok_reply (add_face c (set face));
+    }
+
+-- the facet goes, and its other faces stay
+abbrev pub dropping : Complex → List ℕ → Editing
+dropping c face =
+    record {
+      lists = face ∷ [];
+      own = (stands_in c (set face), condition.NotFacet) ∷ [];
+      complex = drop_face c (set face);
+      reply = ok_reply (drop_face c (set face));
+    }
+
+-- the condition that a face with this fault fails
+abbrev pub free_condition : FreeFault → Condition
+free_condition free.NotFace = condition.NotFace
+free_condition free.NotFree = condition.NotFree
+
+-- the elementary collapse: the free face goes, with the one face in which it lies properly
+abbrev pub collapsing : Complex → List ℕ → Editing
+collapsing c face =
+    record {
+      lists = face ∷ [];
+      own = map (λ t. (t.0, free_condition t.1)) (free_tests c (set face));
+      complex = collapse c (set face);
+      reply = ok_reply (collapse c (set face));
     }
 
 -- the conditions before those on the state after the change, without that on the name
@@ -187,6 +345,9 @@ redo limits s x =
 
 abbrev pub changing : Limits → State → List ℕ → Edit → Meaning
 changing limits s x (edit.Flip a b) = change limits s x (flipping (present s x) a b)
+changing limits s x (edit.Add face) = change limits s x (adding (present s x) face)
+changing limits s x (edit.Drop face) = change limits s x (dropping (present s x) face)
+changing limits s x (edit.Collapse face) = change limits s x (collapsing (present s x) face)
 changing limits s x edit.Undo = undo limits s x
 changing limits s x edit.Redo = redo limits s x
 
@@ -194,7 +355,7 @@ changing limits s x edit.Redo = redo limits s x
 
 abbrev pub meaning : Limits → State → Command → Meaning
 meaning limits s (command.Show lists) = record { tests = flat_map list_tests lists; after = s; reply = facets_reply (generated (map set lists)) }
-meaning limits s (command.Make x m) = assignment limits s x (making m)
+meaning limits s (command.Make x m) = assignment limits s x (making s m)
 meaning limits s (command.Ask x q) = answering s x (asking (present s x) q)
 meaning limits s (command.Change x e) = changing limits s x e
 

@@ -1,8 +1,11 @@
 pub mod Commands
+pub mod Edits
 pub mod Exits
 pub mod Limits
 pub mod Output
+pub mod Relabelling
 pub mod Reply
+pub mod Rooms
 pub mod Saturated
 pub mod Stops
 pub mod Streams

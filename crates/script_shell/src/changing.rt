@@ -1,19 +1,19 @@
-ghost use Rattle.std.specs.Prelude.{◌≡◌, ◌≤◌, [], ◌∷◌, ◌++◌, None, map, IfOk, OnOk, IfErr, OnErr, IsTrue};
+ghost use Rattle.std.specs.Prelude.{◌≡◌, [], ◌∷◌, None, IfOk, OnOk, IfErr, OnErr, IsTrue};
 ghost use Rattle.simplex.specs.FirstFailing.{first_failing};
-ghost use Rattle.shell_names.specs.State.{present, holds, entry, undone, redone};
-ghost use Rattle.script_shell.specs.Commands.{ok_reply, change, changing, editing_tests, flipping, undo, redo, weight_test, journal_test, after_edit};
+ghost use Rattle.shell_names.specs.State.{present, holds, undone, redone};
+ghost use Rattle.script_shell.specs.Commands.{ok_reply, change, changing, undo, redo, weight_test, journal_test, after_edit};
+ghost use Rattle.script_shell.specs.Edits.{editing, makes_anew};
 ghost use Rattle.script_shell.specs.Limits.{IsWithinStandard};
 ghost use Rattle.script_shell.specs.Stops.{StopsAt};
 
 use crate::Limits;
-use crate::lists::simplex_of;
+use crate::edits::next;
 use crate::replies::ok_reply;
 use crate::stop::Stop;
 use facet_set::Facets;
-use flip_rules::{apply, check};
 use script_text::{Condition, Edit, Name};
 use shell_names::Names;
-use simplex::{Flip, Numbers, Text};
+use simplex::Text;
 use std::alloc::Global;
 
 /// A change of the complex of the name: its reply where no condition refuses it.
@@ -32,48 +32,35 @@ pub fn change(
     ensures err { OnErr result (names.new ≡ names.old) }
 {
     match edit {
-        Edit::Flip { a, b } => flip(alloc, limits, names, name, a, b),
         Edit::Undo => undo(alloc, limits, names, name),
         Edit::Redo => redo(alloc, limits, names, name),
+        Edit::Flip { .. } | Edit::Add { .. } | Edit::Drop { .. } | Edit::Collapse { .. } => {
+            replace(alloc, limits, names, name, edit)
+        }
     }
 }
 
-fn flip(
+// An edit that makes the complex anew.
+fn replace(
     alloc: Global,
     limits: Limits,
     names: &mut Names,
     name: &Name,
-    a: &Numbers,
-    b: &Numbers,
+    edit: &Edit,
 ) -> Result<Text, Stop>
-    requires { IsWithinStandard limits }
-    ensures passed { OnOk result (first_failing (change limits names.old name.now (flipping (present names.old name.now) a.now b.now)).tests ≡ None) }
-    ensures text { IfOk result (λ text. text ≡ (flipping (present names.old name.now) a.now b.now).reply) }
-    ensures state { OnOk result (names.new ≡ after_edit names.old name.now (flipping (present names.old name.now) a.now b.now).complex) }
-    ensures refused { IfErr result (λ stop. StopsAt stop (first_failing (change limits names.old name.now (flipping (present names.old name.now) a.now b.now)).tests)) }
+    requires standard { IsWithinStandard limits }
+    requires anew { IsTrue (makes_anew edit.now) }
+    ensures passed { OnOk result (first_failing (change limits names.old name.now (editing (present names.old name.now) edit.now)).tests ≡ None) }
+    ensures text { IfOk result (λ text. text ≡ ok_reply (editing (present names.old name.now) edit.now).complex) }
+    ensures state { OnOk result (names.new ≡ after_edit names.old name.now (editing (present names.old name.now) edit.now).complex) }
+    ensures refused { IfErr result (λ stop. StopsAt stop (first_failing (change limits names.old name.now (editing (present names.old name.now) edit.now)).tests)) }
     ensures err { OnErr result (names.new ≡ names.old) }
 {
     let Some(complex) = names.present(name) else {
         return Err(Stop::Refused(Condition::NoName));
     };
-    let next = flipped(alloc, complex, a, b)?;
+    let next = next(alloc, complex, edit)?;
     put(alloc, limits, names, name, next)
-}
-
-// The complex after the flip, or the first condition before those on the state after it that fails.
-fn flipped(alloc: Global, complex: &Facets, a: &Numbers, b: &Numbers) -> Result<Facets, Stop>
-    ensures passed { OnOk result (first_failing (editing_tests (flipping complex.now a.now b.now)) ≡ None) }
-    ensures complex { IfOk result (λ next. next ≡ (flipping complex.now a.now b.now).complex) }
-    ensures refused { IfErr result (λ stop. StopsAt stop (first_failing (editing_tests (flipping complex.now a.now b.now)))) }
-{
-    let a = simplex_of(alloc, a.as_slice())?;
-    let b = simplex_of(alloc, b.as_slice())?;
-    if complex.as_slice().is_empty() {
-        return Err(Stop::Refused(Condition::Void));
-    }
-    let flip = Flip { a, b };
-    check(complex, &flip)?;
-    Ok(apply(alloc, complex, &flip)?)
 }
 
 // Puts the complex in place of the present one, where the weights and the changes stay within the limits.

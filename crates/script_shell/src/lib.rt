@@ -3,10 +3,15 @@
 
 mod asking;
 mod changing;
+mod constructing;
+mod counting;
+mod edits;
 mod exit;
 mod limits;
 mod lists;
 mod making;
+mod parts;
+mod relabelling;
 mod replies;
 mod reply;
 mod run;

@@ -1,9 +1,12 @@
-ghost use Rattle.std.specs.Prelude.{◌≡◌, IfOk};
-ghost use Rattle.script_shell.specs.Commands.{facets_reply, ok_reply};
+ghost use Rattle.std.specs.Prelude.{◌≡◌, ◌++◌, codes, map, pos, IfOk};
+ghost use Rattle.face_vectors.specs.Row.{entries};
+ghost use Rattle.script_text.specs.Printing.{facets_text};
+ghost use Rattle.script_shell.specs.Commands.{facets_reply, line, number_reply, numbers_reply, ok_reply, yes_or_no};
 
+use face_vectors::Row;
 use facet_set::Facets;
-use script_text::{put_facets, put_number};
-use simplex::{Memory, Text};
+use script_text::{put_facets, put_list, put_number};
+use simplex::{Memory, Simplex, Text};
 use std::alloc::Global;
 
 /// The reply that shows the facets.
@@ -24,6 +27,61 @@ pub fn ok_reply(alloc: Global, facets: &Facets) -> Result<Text, Memory>
     let mut text = Text::new(alloc);
     text.extend(b"ok ")?;
     put_number(&mut text, facets.as_slice().len() as i128)?;
+    text.push(b'\n')?;
+    Ok(text)
+}
+
+/// The reply that shows the number behind the word.
+pub fn number_reply(alloc: Global, word: &[u8], number: i128) -> Result<Text, Memory>
+    ensures { IfOk result (λ text. text ≡ number_reply word.now number) }
+{
+    let mut text = Text::new(alloc);
+    text.extend(word)?;
+    put_number(&mut text, number)?;
+    text.push(b'\n')?;
+    Ok(text)
+}
+
+/// The reply that shows the integers of the row behind the word.
+pub fn row_reply(alloc: Global, word: &[u8], row: &Row) -> Result<Text, Memory>
+    ensures { IfOk result (λ text. text ≡ numbers_reply word.now (entries row.now)) }
+{
+    let mut text = Text::new(alloc);
+    text.extend(word)?;
+    put_list(&mut text, row.as_slice())?;
+    text.push(b'\n')?;
+    Ok(text)
+}
+
+/// The reply that shows the numbers behind the word.
+pub fn numbers_reply(alloc: Global, word: &[u8], numbers: &[u64]) -> Result<Text, Memory>
+    ensures { IfOk result (λ text. text ≡ numbers_reply word.now (map pos numbers.now)) }
+{
+    let mut text = Text::new(alloc);
+    text.extend(word)?;
+    put_list(&mut text, numbers)?;
+    text.push(b'\n')?;
+    Ok(text)
+}
+
+/// The reply that shows the faces.
+pub fn faces_reply(alloc: Global, faces: &[Simplex]) -> Result<Text, Memory>
+    ensures { IfOk result (λ text. text ≡ line (codes "faces " ++ facets_text faces.now)) }
+{
+    let mut text = Text::new(alloc);
+    text.extend(b"faces ")?;
+    put_facets(&mut text, faces)?;
+    text.push(b'\n')?;
+    Ok(text)
+}
+
+/// The reply that says yes or no behind the word.
+pub fn yes_or_no(alloc: Global, word: &[u8], yes: bool) -> Result<Text, Memory>
+    ensures { IfOk result (λ text. text ≡ yes_or_no word.now yes) }
+{
+    let mut text = Text::new(alloc);
+    text.extend(word)?;
+    text.extend(if yes { b"yes" } else { b"no" })?;
     text.push(b'\n')?;
     Ok(text)
 }

@@ -10,7 +10,7 @@ ghost use Rattle.script_shell.specs.Stops.{StopsAt};
 
 use crate::asking::ask;
 use crate::changing::change;
-use crate::lists::simplices_of;
+use crate::lists::generated;
 use crate::making::assign;
 use crate::replies::facets_reply;
 use crate::stop::Stop;
@@ -123,7 +123,6 @@ fn show(alloc: Global, lists: &Lists) -> Result<Text, Stop>
     ensures text { IfOk result (λ text. text ≡ facets_reply (generated (map set lists.now))) }
     ensures refused { IfErr result (λ stop. StopsAt stop (first_failing (flat_map list_tests lists.now))) }
 {
-    let simplices = simplices_of(alloc, lists.as_slice())?;
-    let facets = Facets::generated(alloc, simplices.as_slice())?;
+    let facets = generated(alloc, lists)?;
     Ok(facets_reply(alloc, &facets)?)
 }

@@ -1,4 +1,4 @@
-ghost use Rattle.std.specs.Prelude.{◌≡◌, ◌≤◌, ◌<◌, ◌+◌, ◌≢◌, ℕ, List, Err, OnOk, IfOk, OnErr, IsErrOf, is_ok, length, vec_len};
+ghost use Rattle.std.specs.Prelude.{◌≡◌, ◌≤◌, ◌<◌, ◌+◌, ◌≢◌, ℕ, List, Err, OnOk, IfOk, IsErrOf, is_ok, length, vec_len};
 ghost use Rattle.run_ends.specs.Counts.{Rose};
 ghost use Rattle.run_ends.specs.Ends.{Grows, Loses, AtEnd, HasSinkCause};
 ghost use Rattle.script_shell.specs.Streams.{GrowsByFront, Gave};

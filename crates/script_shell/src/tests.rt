@@ -229,3 +229,80 @@ fn the_future_that_an_edit_empties_does_not_count(rt: HostRuntime) -> Result<(),
     }
     Ok(())
 }
+
+#[test]
+fn a_copy_asks_for_its_source_and_then_for_room(rt: HostRuntime) -> Result<(), Fail> {
+    let alloc = rt.alloc();
+    let mut shell = Shell::new(alloc, SMALL);
+    for (command, reply) in [
+        ("X := copy X", "refused no_name\n"),
+        ("X := [[1,2],[1,3]]", "ok 2\n"),
+        ("Y := copy X", "ok 2\n"),
+        ("Z := copy Q", "refused no_name\n"),
+        ("Z := copy X", "refused names_full\n"),
+        ("X := [[1,2]]", "ok 1\n"),
+        ("print Y", "facets [[1,2],[1,3]]\n"),
+        ("Y := copy Y", "ok 2\n"),
+        ("undo Y", "refused no_past\n"),
+    ] {
+        let answered = answer(alloc, &mut shell, command)?;
+        assert_eq!(rt; answered.text(), reply.as_bytes(), "at {command}");
+    }
+    Ok(())
+}
+
+#[test]
+fn the_numbers_of_the_torus(rt: HostRuntime) -> Result<(), Fail> {
+    let alloc = rt.alloc();
+    let mut shell = Shell::new(alloc, Limits::STANDARD);
+    for (command, reply) in [
+        (
+            "T := [[1,2,4],[1,2,6],[1,3,4],[1,3,7],[1,5,6],[1,5,7],[2,3,5],[2,3,7],[2,4,5],[2,6,7],[3,4,6],[3,5,6],[4,5,7],[4,6,7]]",
+            "ok 14\n",
+        ),
+        ("fvec T", "fvec [7,21,14]\n"),
+        ("hvec T", "hvec [1,4,10,-1]\n"),
+        ("gvec T", "gvec [1,3]\n"),
+        ("euler T", "euler 0\n"),
+        ("faces T 0", "faces [[1],[2],[3],[4],[5],[6],[7]]\n"),
+        ("degree T [7,4]", "degree 2\n"),
+        ("degree T [1,2,3]", "refused not_face\n"),
+    ] {
+        let answered = answer(alloc, &mut shell, command)?;
+        assert_eq!(rt; answered.text(), reply.as_bytes(), "at {command}");
+    }
+    Ok(())
+}
+
+#[test]
+fn betti_numbers_and_what_comes_before_a_construction(rt: HostRuntime) -> Result<(), Fail> {
+    let alloc = rt.alloc();
+    let mut shell = Shell::new(alloc, Limits::STANDARD);
+    for (command, reply) in [
+        ("C := [[1,2],[1,3],[2,3]]", "ok 3\n"),
+        ("betti C", "betti [1,1]\n"),
+        ("V := []", "ok 0\n"),
+        ("betti V", "betti []\n"),
+        ("S := join C Q", "refused no_name\n"),
+        ("S := sum C [1,1] V [0]", "refused label_twice\n"),
+        ("S := sum C [1,2] V [1,2]", "refused void\n"),
+        ("S := handle V [1] [0]", "refused label_range\n"),
+        ("S := relabel C [[1,0],[2,9],[3]]", "refused not_map\n"),
+        (
+            "S := relabel C [[3,4294967296],[1,4294967297],[2,7]]",
+            "refused label_range\n",
+        ),
+        (
+            "S := relabel C [[3,4294967296],[1,4294967296],[2,7]]",
+            "refused not_map\n",
+        ),
+        (
+            "S := relabel C [[4294967297,8],[2,0],[3,7]]",
+            "refused not_map\n",
+        ),
+    ] {
+        let answered = answer(alloc, &mut shell, command)?;
+        assert_eq!(rt; answered.text(), reply.as_bytes(), "at {command}");
+    }
+    Ok(())
+}

@@ -1,6 +1,6 @@
 -- A command is found from its tokens.
 use Rattle.std.proofs.Common.{◌≡◌, ℕ, Bool, true, false, cond, List, [], ◌∷◌, ◌++◌, map, drop, refl, sym, ap, ◌∙◌, Option, Some, None, append_assoc, append-nil, option_and_then}
-use Rattle.std.specs.Prelude.{◌==◌, slice_get, unwrap_or}
+use Rattle.std.specs.Prelude.{◌==◌, find, slice_get, unwrap_or}
 use Rattle.std.specs.Option.{option_map}
 use Rattle.std.proofs.lemmas.Bool.Decides.{nat_tests}
 use Rattle.std.proofs.Common.{arith}
@@ -10,7 +10,10 @@ use Rattle.script_text.specs.declared.token.Token.{Token}
 use Rattle.script_text.specs.declared.token.Token.TheVariants.{Word, Number, Assign, Open, Close, Comma}
 use Rattle.script_text.specs.declared.command.Command.{Command}
 use Rattle.script_text.specs.declared.command.Command.TheVariants as command
+use Rattle.script_text.specs.declared.command.Maker.{Maker}
 use Rattle.script_text.specs.declared.command.Maker.TheVariants as maker
+use Rattle.script_text.specs.Methods.{method_of, method_word, methods}
+use Rattle.script_text.specs.declared.method.Method.{Method}
 use Rattle.script_text.specs.declared.command.Question.TheVariants as question
 use Rattle.script_text.specs.declared.command.Edit.TheVariants as edit
 use Rattle.script_text.specs.declared.verb.Verb.{Verb}
@@ -18,9 +21,9 @@ use Rattle.script_text.specs.Grammar.{with_commas, closed, list, lists, maker_to
 use Rattle.script_text.specs.Laws.{ReadsTheSpelled, SpelledApart}
 use Rattle.script_text.specs.Parts.{before, number, word, NoneBegins, NoneIs}
 use Rattle.script_text.proofs.PartLaws.{before_before, behind}
-use Rattle.script_text.specs.Reading.{same_token, same_tokens, numbers_in, lists_in, made, spoken, NoneSpoken, guess, checked, command_in, command_of}
+use Rattle.script_text.specs.Reading.{same_token, same_tokens, numbers_in, lists_in, word_in, built, NoneBuilt, made, spoken, NoneSpoken, guess, checked, command_in, command_of}
 use Rattle.script_text.specs.Tokens.{tokens, is_text}
-use Rattle.script_text.specs.Verbs.{verb_of, verb_word}
+use Rattle.script_text.specs.Verbs.{verb_of, verb_word, verbs}
 
 text_same : (v : List ℕ) → is_text v v ≡ true
 text_same v = (bytes_decides v v).1 refl
@@ -90,16 +93,62 @@ one_taken a = ap (λ ts. (numbers_in ts).1) (sym (append-nil (list a))) ∙ ap (
 two_taken : (a b : List ℕ) → (numbers_in (list a ++ list b)).1 ≡ a ∷ b ∷ []
 two_taken a b = ap (λ (r : List ℕ × List (List ℕ)). r.1) (list_found a (list b)) ∙ ap (λ l. a ∷ l) (one_taken b)
 
+apart_taken : (a y b : List ℕ) → (numbers_in (list a ++ Word y ∷ list b)).1 ≡ a ∷ b ∷ []
+apart_taken a y b = ap (λ (r : List ℕ × List (List ℕ)). r.1) (list_found a (Word y ∷ list b)) ∙ ap (λ l. a ∷ l) (one_taken b)
+
+-- no word is in a list
+word_closed : (ns : List ℕ) (us : List Token) → word_in (closed (map number ns) ++ us) ≡ word_in us
+word_closed [] us = refl
+word_closed (n ∷ []) us = refl
+word_closed (n ∷ m ∷ ns) us = word_closed (m ∷ ns) us
+
+-- what is made of one list
+abbrev of_one : {X : Type 0} → (List ℕ → X) → List (List ℕ) → X
+of_one f ls = f (unwrap_or (slice_get ls 0) [])
+
 -- what is made of two lists
-abbrev of_two : {X : Type 0} → (List ℕ → List ℕ → X) → List (List ℕ) → Option X
-of_two f ls = Some (f (unwrap_or (slice_get ls 0) []) (unwrap_or (slice_get ls 1) []))
+abbrev of_two : {X : Type 0} → (List ℕ → List ℕ → X) → List (List ℕ) → X
+of_two f ls = f (unwrap_or (slice_get ls 0) []) (unwrap_or (slice_get ls 1) [])
+
+-- each maker is guessed from its tokens
+made_of : (m : Maker) → made (maker_tokens m) ≡ m
+made_of (maker.Facets ls) = ap maker.Facets (lists_taken ls)
+made_of (maker.Copy x) = refl
+made_of (maker.Link x a) = ap (of_one (maker.Link x)) (one_taken a)
+made_of (maker.Star x a) = ap (of_one (maker.Star x)) (one_taken a)
+made_of (maker.Deletion x a) = ap (of_one (maker.Deletion x)) (one_taken a)
+made_of (maker.Boundary x) = refl
+made_of (maker.Skeleton x k) = refl
+made_of (maker.BdSimplex d) = refl
+made_of (maker.BdCross d) = refl
+made_of (maker.Cyclic k n) = refl
+made_of (maker.Stacked d n seed) = refl
+made_of (maker.Join x y) = refl
+made_of (maker.Cone x) = refl
+made_of (maker.Suspension x) = refl
+made_of (maker.Sum x a y b) = ap (of_two (λ f g. maker.Sum x f (word_in (list a ++ Word y ∷ list b)) g)) (apart_taken a y b) ∙ ap (λ z. maker.Sum x a z b) (word_closed a (Word y ∷ list b))
+made_of (maker.Handle x a b) = ap (of_two (maker.Handle x)) (two_taken a b)
+made_of (maker.Relabel x pairs) = ap (maker.Relabel x) (lists_taken pairs)
 
 -- each form is guessed from its tokens
 pub guessed : (c : Command) → guess (command_tokens c) ≡ Some c
 guessed (command.Show ls) = ap (λ l. Some (command.Show l)) (lists_taken ls)
-guessed (command.Make x (maker.Facets ls)) = ap (λ l. Some (command.Make x (maker.Facets l))) (lists_taken ls)
+guessed (command.Make x m) = ap (λ k. Some (command.Make x k)) (made_of m)
 guessed (command.Ask x question.Print) = refl
-guessed (command.Change x (edit.Flip a b)) = ap (of_two (λ a b. command.Change x (edit.Flip a b))) (two_taken a b)
+guessed (command.Ask x question.Fvec) = refl
+guessed (command.Ask x question.Hvec) = refl
+guessed (command.Ask x question.Gvec) = refl
+guessed (command.Ask x question.Euler) = refl
+guessed (command.Ask x (question.Faces k)) = refl
+guessed (command.Ask x (question.Degree a)) = ap (of_one (λ a. Some (command.Ask x (question.Degree a)))) (one_taken a)
+guessed (command.Ask x question.Betti) = refl
+guessed (command.Ask x question.Components) = refl
+guessed (command.Ask x question.Closed) = refl
+guessed (command.Ask x question.Strong) = refl
+guessed (command.Change x (edit.Flip a b)) = ap (of_two (λ a b. Some (command.Change x (edit.Flip a b)))) (two_taken a b)
+guessed (command.Change x (edit.Add a)) = ap (of_one (λ a. Some (command.Change x (edit.Add a)))) (one_taken a)
+guessed (command.Change x (edit.Drop a)) = ap (of_one (λ a. Some (command.Change x (edit.Drop a)))) (one_taken a)
+guessed (command.Change x (edit.Collapse a)) = ap (of_one (λ a. Some (command.Change x (edit.Collapse a)))) (one_taken a)
 guessed (command.Change x edit.Undo) = refl
 guessed (command.Change x edit.Redo) = refl
 
@@ -162,6 +211,55 @@ no_made x r s e h c k =
     let us : b.0 ≡ maker_tokens (made b.0) = cc in
     h (made b.0) (b.1 ∙ ap Some us)
 
+-- a maker begins with a word or is lists
+pub no_maker : (t : Option (List Token)) → NoneBegins word t → NoneIs lists t → NoneIs maker_tokens t
+no_maker t h k m e = either (maker_tokens m) refl (made_of m)
+  where
+    of_lists : (ts : List Token) → maker.Facets (lists_in ts) ≡ m → ⊥
+    of_lists ts g = k (lists_in ts) (e ∙ ap Some (sym (ap maker_tokens g)))
+
+    either : (ts : List Token) → maker_tokens m ≡ ts → made ts ≡ m → ⊥
+    either [] q g = of_lists [] g
+    either (Word w ∷ ts) q g = h w ts (e ∙ ap Some q)
+    either (Number n ∷ ts) q g = of_lists (Number n ∷ ts) g
+    either (Assign ∷ ts) q g = of_lists (Assign ∷ ts) g
+    either (Open ∷ ts) q g = of_lists (Open ∷ ts) g
+    either (Close ∷ ts) q g = of_lists (Close ∷ ts) g
+    either (Comma ∷ ts) q g = of_lists (Comma ∷ ts) g
+
+-- what is made behind the method, if there is one
+abbrev by_method : List Token → Option Method → Maker
+by_method ts v = unwrap_or (option_map (λ m. built m ts) v) (maker.Facets [])
+
+pub no_method : (w : List ℕ) (r : Option (List Token)) → method_of w ≡ None → NoneIs maker_tokens (before (word w) r)
+no_method w r n m k =
+    let b = behind (word w) (maker_tokens m) r k in
+    let g : maker.Facets [] ≡ m = sym (ap (by_method b.0) n) ∙ ap made b.2 ∙ made_of m in
+    let q : Word w ∷ b.0 ≡ Open ∷ Close ∷ [] = b.2 ∙ sym (ap maker_tokens g) in
+    cc
+
+-- what is found by a test passes it
+found_by : {X : Type 0} (p : X → Bool) (xs : List X) (x : X) → find p xs ≡ Some x → p x ≡ true
+found_by p [] x h = cc
+found_by p (y ∷ ys) x h = either (p y) refl (λ k. found_by p ys x k) h
+  where
+    either : (b : Bool) → p y ≡ b → (find p ys ≡ Some x → p x ≡ true) → cond b (Some y) (find p ys) ≡ Some x → p x ≡ true
+    either true e f h = let g : x ≡ y = cc in ap p g ∙ e
+    either false e f h = f h
+
+pub method_is : (w : List ℕ) (m : Method) → method_of w ≡ Some m → w ≡ method_word m
+method_is w m h = (bytes_decides w (method_word m)).0 (found_by (λ k. is_text w (method_word k)) methods m h)
+
+pub no_built : (w : List ℕ) (v : Method) (r : Option (List Token)) → method_of w ≡ Some v → NoneBuilt v r → NoneIs maker_tokens (before (word w) r)
+no_built w v r n s m k =
+    let name = method_is w v n in
+    let b = behind (word w) (maker_tokens m) r k in
+    let d : built v b.0 ≡ m = sym (ap (by_method b.0) n) ∙ ap made b.2 ∙ made_of m in
+    s b.0 b.1 (ap (λ x. Word x ∷ b.0) (sym name) ∙ b.2 ∙ sym (ap maker_tokens d))
+
+pub verb_is : (w : List ℕ) (v : Verb) → verb_of w ≡ Some v → w ≡ verb_word v
+verb_is w v h = (bytes_decides w (verb_word v)).0 (found_by (λ u. is_text w (verb_word u)) verbs v h)
+
 -- any other command, by its first word
 guess_spoken : (w : List ℕ) (ts : List Token) → ((us : List Token) → ts ≡ Assign ∷ us → ⊥) → guess (Word w ∷ ts) ≡ option_map (λ v. spoken v ts) (verb_of w)
 guess_spoken w [] h = refl
@@ -178,14 +276,15 @@ no_verb w r h n c k =
     let g : None ≡ Some c = sym (guess_spoken w b.0 (λ us q. h us (b.1 ∙ ap Some q)) ∙ ap (option_map (λ v. spoken v b.0)) n) ∙ ap guess b.2 ∙ guessed c in
     cc
 
-pub no_spoken : (w : List ℕ) (v : Verb) (r : Option (List Token)) → ((us : List Token) → r ≡ Some (Assign ∷ us) → ⊥) → verb_of w ≡ Some v → w ≡ verb_word v
+pub no_spoken : (w : List ℕ) (v : Verb) (r : Option (List Token)) → ((us : List Token) → r ≡ Some (Assign ∷ us) → ⊥) → verb_of w ≡ Some v
     → NoneSpoken v r → NoneIs command_tokens (before (word w) r)
-no_spoken w v r h n name s c k =
+no_spoken w v r h n s c k =
+    let name = verb_is w v n in
     let b = behind (word w) (command_tokens c) r k in
     let g : Some (spoken v b.0) ≡ Some c = sym (guess_spoken w b.0 (λ us q. h us (b.1 ∙ ap Some q)) ∙ ap (option_map (λ v. spoken v b.0)) n) ∙ ap guess b.2 ∙ guessed c in
     let d : spoken v b.0 ≡ c = cc in
     s b.0 b.1 (ap (λ x. Word x ∷ b.0) (sym name) ∙ b.2 ∙ sym (ap command_tokens d))
 
--- what cannot stand behind a verb makes no command with it
-pub none_spoken : (w : List ℕ) (ts us : List Token) (t : Option (List Token)) → (t ≡ Some us → ⊥) → t ≡ Some ts → Word w ∷ ts ≡ Word w ∷ us → ⊥
-none_spoken w ts us t h e k = let same : ts ≡ us = cc in h (e ∙ ap Some same)
+-- what cannot stand behind a first word makes nothing with it
+pub none_behind : (w : List ℕ) (ts us : List Token) (t : Option (List Token)) → (t ≡ Some us → ⊥) → t ≡ Some ts → Word w ∷ ts ≡ Word w ∷ us → ⊥
+none_behind w ts us t h e k = let same : ts ≡ us = cc in h (e ∙ ap Some same)

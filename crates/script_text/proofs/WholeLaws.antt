@@ -2,9 +2,9 @@
 use Rattle.std.proofs.Common.{◌≡◌, ℕ, true, false, List, [], ◌++◌, sym, ap, ◌∙◌, Option, Some, append-nil}
 use Rattle.script_text.specs.declared.token.Token.{Token}
 use Rattle.script_text.specs.Grammar.{list, lists}
-use Rattle.script_text.specs.Parts.{before, word, NoneBegins, NoneIs}
+use Rattle.script_text.specs.Parts.{before, number, word, NoneBegins, NoneIs}
 use Rattle.script_text.specs.Tokens.{tokens, is_blank}
-use Rattle.script_text.proofs.PartLaws.{Apart, behind, bracketed_apart, list_apart, list_opens}
+use Rattle.script_text.proofs.PartLaws.{Apart, behind, bracketed_apart, list_apart, list_opens, number_apart}
 use Rattle.script_text.proofs.PieceLaws.{over, over_only}
 
 pub word_apart : Apart word
@@ -40,3 +40,10 @@ word_ends x = ends (word x)
 
 pub word_past : (x : List ℕ) (t : Option (List Token)) (rest : List ℕ) → t ≡ before (word x) (tokens rest) → is_blank rest ≡ false → NoneIs word t
 word_past = goes_past word word_apart
+
+-- a number, and nothing behind it
+pub number_ends : (n : ℕ) (t : Option (List Token)) (rest : List ℕ) → t ≡ before (number n) (tokens rest) → is_blank rest ≡ true → t ≡ Some (number n)
+number_ends n = ends (number n)
+
+pub number_past : (n : ℕ) (t : Option (List Token)) (rest : List ℕ) → t ≡ before (number n) (tokens rest) → is_blank rest ≡ false → NoneIs number t
+number_past = goes_past number number_apart

@@ -35,14 +35,43 @@ lists ls = bracketed (map list ls)
 -- the tokens behind the sign of an assignment
 abbrev pub maker_tokens : Maker → List Token
 maker_tokens (maker.Facets ls) = lists ls
+maker_tokens (maker.Copy x) = Word (codes "copy") ∷ Word x ∷ []
+maker_tokens (maker.Link x face) = Word (codes "link") ∷ Word x ∷ list face
+maker_tokens (maker.Star x face) = Word (codes "star") ∷ Word x ∷ list face
+maker_tokens (maker.Deletion x face) = Word (codes "deletion") ∷ Word x ∷ list face
+maker_tokens (maker.Boundary x) = Word (codes "boundary") ∷ Word x ∷ []
+maker_tokens (maker.Skeleton x k) = Word (codes "skeleton") ∷ Word x ∷ number k
+maker_tokens (maker.BdSimplex d) = Word (codes "bdsimplex") ∷ number d
+maker_tokens (maker.BdCross d) = Word (codes "bdcross") ∷ number d
+maker_tokens (maker.Cyclic k n) = Word (codes "cyclic") ∷ number k ++ number n
+maker_tokens (maker.Stacked d n seed) = Word (codes "stacked") ∷ number d ++ number n ++ number seed
+maker_tokens (maker.Join x y) = Word (codes "join") ∷ Word x ∷ Word y ∷ []
+maker_tokens (maker.Cone x) = Word (codes "cone") ∷ Word x ∷ []
+maker_tokens (maker.Suspension x) = Word (codes "suspension") ∷ Word x ∷ []
+maker_tokens (maker.Sum x a y b) = Word (codes "sum") ∷ Word x ∷ list a ++ Word y ∷ list b
+maker_tokens (maker.Handle x a b) = Word (codes "handle") ∷ Word x ∷ list a ++ list b
+maker_tokens (maker.Relabel x pairs) = Word (codes "relabel") ∷ Word x ∷ lists pairs
 
 -- the tokens of a question to a name
 abbrev pub question_tokens : List ℕ → Question → List Token
 question_tokens x question.Print = Word (codes "print") ∷ Word x ∷ []
+question_tokens x question.Fvec = Word (codes "fvec") ∷ Word x ∷ []
+question_tokens x question.Hvec = Word (codes "hvec") ∷ Word x ∷ []
+question_tokens x question.Gvec = Word (codes "gvec") ∷ Word x ∷ []
+question_tokens x question.Euler = Word (codes "euler") ∷ Word x ∷ []
+question_tokens x (question.Faces k) = Word (codes "faces") ∷ Word x ∷ number k
+question_tokens x (question.Degree face) = Word (codes "degree") ∷ Word x ∷ list face
+question_tokens x question.Betti = Word (codes "betti") ∷ Word x ∷ []
+question_tokens x question.Components = Word (codes "components") ∷ Word x ∷ []
+question_tokens x question.Closed = Word (codes "closed") ∷ Word x ∷ []
+question_tokens x question.Strong = Word (codes "strong") ∷ Word x ∷ []
 
 -- the tokens of an edit of a name
 abbrev pub edit_tokens : List ℕ → Edit → List Token
 edit_tokens x (edit.Flip a b) = Word (codes "flip") ∷ Word x ∷ list a ++ list b
+edit_tokens x (edit.Add face) = Word (codes "add") ∷ Word x ∷ list face
+edit_tokens x (edit.Drop face) = Word (codes "drop") ∷ Word x ∷ list face
+edit_tokens x (edit.Collapse face) = Word (codes "collapse") ∷ Word x ∷ list face
 edit_tokens x edit.Undo = Word (codes "undo") ∷ Word x ∷ []
 edit_tokens x edit.Redo = Word (codes "redo") ∷ Word x ∷ []
 

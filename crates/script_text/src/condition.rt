@@ -19,14 +19,32 @@ pub enum Condition {
     Void,
     /// A complex is not pure.
     NotPure,
+    /// Two complexes have not the same dimension.
+    DimDiffers,
+    /// A simplex is no face.
+    NotFace,
+    /// A simplex is no facet.
+    NotFacet,
+    /// Pairs of labels are no one-to-one map of the vertices.
+    NotMap,
     /// Two simplices have a label in common.
     Overlap,
+    /// Two vertices that a handle would join are the ends of an edge, or have a neighbour in common.
+    Near,
     /// The simplices of a flip have not as many labels as a flip wants.
     FlipSize,
     /// The star of a flip's first simplex is not as the flip wants it.
     FlipStar,
     /// A flip's second simplex is a face already.
     FlipPresent,
+    /// A face is empty, or does not lie properly in exactly one face.
+    NotFree,
+    /// A simplex is a face already.
+    IsFace,
+    /// A number is not one that the command takes.
+    Range,
+    /// A matrix of Betti numbers would be too large.
+    RankLimit,
     /// The changes that are kept would be too large.
     JournalFull,
     /// There is nothing to undo.
@@ -51,10 +69,19 @@ impl Condition {
             Condition::SizeLimit => "size_limit",
             Condition::Void => "void",
             Condition::NotPure => "not_pure",
+            Condition::DimDiffers => "dim_differs",
+            Condition::NotFace => "not_face",
+            Condition::NotFacet => "not_facet",
+            Condition::NotMap => "not_map",
             Condition::Overlap => "overlap",
+            Condition::Near => "near",
             Condition::FlipSize => "flip_size",
             Condition::FlipStar => "flip_star",
             Condition::FlipPresent => "flip_present",
+            Condition::NotFree => "not_free",
+            Condition::IsFace => "is_face",
+            Condition::Range => "range",
+            Condition::RankLimit => "rank_limit",
             Condition::JournalFull => "journal_full",
             Condition::NoPast => "no_past",
             Condition::NoFuture => "no_future",

@@ -5,6 +5,7 @@ mod bytes;
 mod command;
 mod condition;
 mod laws;
+mod method;
 mod name;
 mod parts;
 mod printing;

@@ -1,4 +1,4 @@
-ghost use Rattle.std.specs.Prelude.{◌≡◌, ◌<◌, ◌++◌, [], ◌∷◌, ℕ, List, Some, map, length, IfSome, IfOk, IsNone};
+ghost use Rattle.std.specs.Prelude.{◌≡◌, ◌<◌, [], ◌∷◌, ℕ, List, Some, map, length, IfSome, IfOk, IsNone};
 ghost use Rattle.script_text.specs.Grammar.{closed, list, lists};
 ghost use Rattle.script_text.specs.Parts.{before, number, word, NoneBegins};
 ghost use Rattle.script_text.specs.Tokens.{tokens};

@@ -35,6 +35,14 @@ impl Printed for u64 {
     }
 }
 
+impl Printed for i64 {
+    ghost text = { signed_decimal };
+
+    fn put(&self, out: &mut Text) -> Result<(), Memory> {
+        put_number(out, *self as i128)
+    }
+}
+
 impl Printed for i128 {
     ghost text = { signed_decimal };
 

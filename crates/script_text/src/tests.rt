@@ -49,6 +49,19 @@ fn put_words(text: &mut Text, kind: &[u8], name: &Name) -> Result<(), Memory> {
 fn put_question(text: &mut Text, question: &Question) -> Result<(), Memory> {
     match question {
         Question::Print => text.extend(b" Print"),
+        Question::Fvec => text.extend(b" Fvec"),
+        Question::Hvec => text.extend(b" Hvec"),
+        Question::Gvec => text.extend(b" Gvec"),
+        Question::Euler => text.extend(b" Euler"),
+        Question::Faces { k } => {
+            text.extend(b" Faces ")?;
+            k.put(text)
+        }
+        Question::Degree { face } => put_part(text, b" Degree ", face),
+        Question::Betti => text.extend(b" Betti"),
+        Question::Components => text.extend(b" Components"),
+        Question::Closed => text.extend(b" Closed"),
+        Question::Strong => text.extend(b" Strong"),
     }
 }
 
@@ -58,21 +71,86 @@ fn put_maker(text: &mut Text, maker: &Maker) -> Result<(), Memory> {
             text.extend(b" Facets ")?;
             lists.put(text)
         }
+        Maker::Copy { of } => put_words(text, b" Copy ", of),
+        Maker::Link { of, face } => put_around(text, b" Link ", of, face),
+        Maker::Star { of, face } => put_around(text, b" Star ", of, face),
+        Maker::Deletion { of, face } => put_around(text, b" Deletion ", of, face),
+        Maker::Boundary { of } => put_words(text, b" Boundary ", of),
+        Maker::Skeleton { of, k } => {
+            put_words(text, b" Skeleton ", of)?;
+            put_counts(text, &[*k])
+        }
+        Maker::BdSimplex { d } => {
+            text.extend(b" BdSimplex")?;
+            put_counts(text, &[*d])
+        }
+        Maker::BdCross { d } => {
+            text.extend(b" BdCross")?;
+            put_counts(text, &[*d])
+        }
+        Maker::Cyclic { k, n } => {
+            text.extend(b" Cyclic")?;
+            put_counts(text, &[*k, *n])
+        }
+        Maker::Stacked { d, n, seed } => {
+            text.extend(b" Stacked")?;
+            put_counts(text, &[*d, *n, *seed])
+        }
+        Maker::Join { left, right } => {
+            put_words(text, b" Join ", left)?;
+            put_words(text, b" ", right)
+        }
+        Maker::Cone { of } => put_words(text, b" Cone ", of),
+        Maker::Suspension { of } => put_words(text, b" Suspension ", of),
+        Maker::Sum {
+            left,
+            left_facet,
+            right,
+            right_facet,
+        } => {
+            put_around(text, b" Sum ", left, left_facet)?;
+            put_around(text, b" ", right, right_facet)
+        }
+        Maker::Handle { of, first, second } => {
+            put_around(text, b" Handle ", of, first)?;
+            put_part(text, b" ", second)
+        }
+        Maker::Relabel { of, pairs } => {
+            put_words(text, b" Relabel ", of)?;
+            text.extend(b" ")?;
+            pairs.put(text)
+        }
     }
 }
 
 fn put_edit(text: &mut Text, edit: &Edit) -> Result<(), Memory> {
     match edit {
         Edit::Flip { a, b } => {
-            put_flip_part(text, b" Flip ", a)?;
-            put_flip_part(text, b" ", b)
+            put_part(text, b" Flip ", a)?;
+            put_part(text, b" ", b)
         }
+        Edit::Add { face } => put_part(text, b" Add ", face),
+        Edit::Drop { face } => put_part(text, b" Drop ", face),
+        Edit::Collapse { face } => put_part(text, b" Collapse ", face),
         Edit::Undo => text.extend(b" Undo"),
         Edit::Redo => text.extend(b" Redo"),
     }
 }
 
-fn put_flip_part(text: &mut Text, before: &[u8], part: &Numbers) -> Result<(), Memory> {
+fn put_around(text: &mut Text, kind: &[u8], name: &Name, part: &Numbers) -> Result<(), Memory> {
+    put_words(text, kind, name)?;
+    put_part(text, b" ", part)
+}
+
+fn put_counts(text: &mut Text, counts: &[u64]) -> Result<(), Memory> {
+    for n in counts {
+        text.extend(b" ")?;
+        n.put(text)?;
+    }
+    Ok(())
+}
+
+fn put_part(text: &mut Text, before: &[u8], part: &Numbers) -> Result<(), Memory> {
     text.extend(before)?;
     part.put(text)
 }
@@ -120,6 +198,81 @@ fn the_second_token_makes_an_assignment(rt: HostRuntime) -> Result<(), Fail> {
         (b"show := [[1]]", b"Make show Facets [[1]]"),
         (b"print:=[]", b"Make print Facets []"),
         (b"undo # X\n:=[[]]", b"Make undo Facets [[]]"),
+        (b"X := copy Y", b"Make X Copy Y"),
+        (b"copy := copy copy", b"Make copy Copy copy"),
+    ] {
+        let text = spelled(rt.alloc(), bytes)?;
+        assert_eq!(rt; text.map(|t| t.as_slice() == command), Some(true));
+    }
+    Ok(())
+}
+
+#[test]
+fn each_first_word_is_a_name_too(rt: HostRuntime) -> Result<(), Fail> {
+    for word in [
+        b"link".as_slice(),
+        b"star",
+        b"deletion",
+        b"boundary",
+        b"skeleton",
+        b"bdsimplex",
+        b"bdcross",
+        b"cyclic",
+        b"stacked",
+        b"join",
+        b"cone",
+        b"suspension",
+        b"sum",
+        b"handle",
+        b"relabel",
+        b"betti",
+        b"components",
+        b"closed",
+        b"strong",
+        b"add",
+        b"drop",
+        b"collapse",
+    ] {
+        let mut bytes = Text::new(rt.alloc());
+        bytes.extend(word)?;
+        bytes.extend(b" := [[1]]")?;
+        let mut command = Text::new(rt.alloc());
+        command.extend(b"Make ")?;
+        command.extend(word)?;
+        command.extend(b" Facets [[1]]")?;
+        let text = spelled(rt.alloc(), bytes.as_slice())?;
+        assert_eq!(rt;
+            text.map(|t| t.as_slice() == command.as_slice()),
+            Some(true)
+        );
+    }
+    Ok(())
+}
+
+#[test]
+fn makers_take_names_numbers_and_lists(rt: HostRuntime) -> Result<(), Fail> {
+    for (bytes, command) in [
+        (
+            b"X := link link [2,1]".as_slice(),
+            b"Make X Link link [2,1]".as_slice(),
+        ),
+        (b"X := star Y []", b"Make X Star Y []"),
+        (b"X := deletion Y [1]", b"Make X Deletion Y [1]"),
+        (b"X := boundary Y", b"Make X Boundary Y"),
+        (b"X := skeleton Y 3", b"Make X Skeleton Y 3"),
+        (b"X := bdsimplex 4", b"Make X BdSimplex 4"),
+        (b"X := bdcross 5", b"Make X BdCross 5"),
+        (b"X := cyclic 4 6", b"Make X Cyclic 4 6"),
+        (b"X := stacked 3 50 7", b"Make X Stacked 3 50 7"),
+        (b"X := join Y Z", b"Make X Join Y Z"),
+        (b"X := cone Y", b"Make X Cone Y"),
+        (b"X := suspension Y", b"Make X Suspension Y"),
+        (b"X := sum Y [1,2]sum[3,4]", b"Make X Sum Y [1,2] sum [3,4]"),
+        (b"X := handle Y [2,1] [3]", b"Make X Handle Y [2,1] [3]"),
+        (
+            b"X := relabel Y [[1,9],[2]]",
+            b"Make X Relabel Y [[1,9],[2]]",
+        ),
     ] {
         let text = spelled(rt.alloc(), bytes)?;
         assert_eq!(rt; text.map(|t| t.as_slice() == command), Some(true));
@@ -132,7 +285,23 @@ fn the_first_word_makes_any_other_command(rt: HostRuntime) -> Result<(), Fail> {
     for (bytes, command) in [
         (b"print X".as_slice(), b"Ask X Print".as_slice()),
         (b"print print", b"Ask print Print"),
+        (b"fvec X", b"Ask X Fvec"),
+        (b"hvec gvec", b"Ask gvec Hvec"),
+        (b"gvec X", b"Ask X Gvec"),
+        (b"euler X", b"Ask X Euler"),
+        (
+            b"faces X 999999999999999999",
+            b"Ask X Faces 999999999999999999",
+        ),
+        (b"degree degree [2,2]", b"Ask degree Degree [2,2]"),
+        (b"betti X", b"Ask X Betti"),
+        (b"components X", b"Ask X Components"),
+        (b"closed X", b"Ask X Closed"),
+        (b"strong strong", b"Ask strong Strong"),
         (b"flip flip [1] [2]", b"Change flip Flip [1] [2]"),
+        (b"add X [3,1]", b"Change X Add [3,1]"),
+        (b"drop drop [1]", b"Change drop Drop [1]"),
+        (b"collapse X [2,2]", b"Change X Collapse [2,2]"),
         (b"undo X", b"Change X Undo"),
         (b"redo#\nundo", b"Change undo Redo"),
     ] {
@@ -150,6 +319,15 @@ fn other_bytes_are_no_command(rt: HostRuntime) -> Result<(), Fail> {
         b"[]",
         b"Show []",
         b"shows []",
+        b"X := copy",
+        b"X := copy Y Z",
+        b"X := copies Y",
+        b"fvec []",
+        b"faces X",
+        b"faces X [1]",
+        b"faces X 1 1",
+        b"degree X 1",
+        b"degree X [1] [2]",
         b"sh#\now []",
         b"show [] []",
         b"show [];",
@@ -187,6 +365,42 @@ fn other_bytes_are_no_command(rt: HostRuntime) -> Result<(), Fail> {
         b"facets X",
         b"show [[1]] \xc3\xa9",
         b"show [[1]] $ # show []",
+    ] {
+        assert_eq!(rt; spelled(rt.alloc(), bytes)?.is_none(), true);
+    }
+    Ok(())
+}
+
+#[test]
+fn parts_that_lack_or_are_too_many_make_no_command(rt: HostRuntime) -> Result<(), Fail> {
+    for bytes in [
+        b"link X [1]".as_slice(),
+        b"X := betti Y",
+        b"X := link Y",
+        b"X := star Y 1",
+        b"X := deletion Y [1] [2]",
+        b"X := boundary Y 1",
+        b"X := skeleton Y",
+        b"X := bdsimplex",
+        b"X := bdcross 1 2",
+        b"X := cyclic 4",
+        b"X := cyclic 4 6 1",
+        b"X := stacked 3 50",
+        b"X := stacked 3 50 7 1",
+        b"X := join Y",
+        b"X := join Y Z Z",
+        b"X := cone 1",
+        b"X := suspension [[1]]",
+        b"X := sum Y [1] Z",
+        b"X := sum Y Z [1] [2]",
+        b"X := handle Y [1]",
+        b"X := relabel Y [1,2]",
+        b"X := relabel Y [[1,2]] []",
+        b"betti X 1",
+        b"closed",
+        b"add X",
+        b"drop X [1] [2]",
+        b"collapse [1] X",
     ] {
         assert_eq!(rt; spelled(rt.alloc(), bytes)?.is_none(), true);
     }
@@ -276,7 +490,16 @@ fn simplices_and_facets_are_printed_without_spaces(rt: HostRuntime) -> Result<()
 fn conditions_have_their_names(rt: HostRuntime) -> Result<(), Fail> {
     assert_eq!(rt; Condition::LabelRange.name(), "label_range");
     assert_eq!(rt; Condition::Void.name(), "void");
+    assert_eq!(rt; Condition::NotFace.name(), "not_face");
+    assert_eq!(rt; Condition::DimDiffers.name(), "dim_differs");
+    assert_eq!(rt; Condition::NotFacet.name(), "not_facet");
+    assert_eq!(rt; Condition::NotMap.name(), "not_map");
+    assert_eq!(rt; Condition::Near.name(), "near");
     assert_eq!(rt; Condition::FlipPresent.name(), "flip_present");
+    assert_eq!(rt; Condition::NotFree.name(), "not_free");
+    assert_eq!(rt; Condition::IsFace.name(), "is_face");
+    assert_eq!(rt; Condition::Range.name(), "range");
+    assert_eq!(rt; Condition::RankLimit.name(), "rank_limit");
     assert_eq!(rt; Condition::NoFuture.name(), "no_future");
     Ok(())
 }

@@ -1,4 +1,4 @@
-ghost use Rattle.std.specs.Prelude.{◌≡◌, IfSome};
+ghost use Rattle.std.specs.Prelude.{◌≡◌};
 ghost use Rattle.script_text.specs.Verbs.{verb_of, verb_word};
 
 /// The first word of a command that is no assignment.
@@ -6,24 +6,76 @@ ghost use Rattle.script_text.specs.Verbs.{verb_of, verb_word};
 pub enum Verb {
     Show,
     Print,
+    Fvec,
+    Hvec,
+    Gvec,
+    Euler,
+    Faces,
+    Degree,
+    Betti,
+    Components,
+    Closed,
+    Strong,
     Flip,
+    Add,
+    Drop,
+    Collapse,
     Undo,
     Redo,
 }
 
+const VERBS: [Verb; 18] = [
+    Verb::Show,
+    Verb::Print,
+    Verb::Fvec,
+    Verb::Hvec,
+    Verb::Gvec,
+    Verb::Euler,
+    Verb::Faces,
+    Verb::Degree,
+    Verb::Betti,
+    Verb::Components,
+    Verb::Closed,
+    Verb::Strong,
+    Verb::Flip,
+    Verb::Add,
+    Verb::Drop,
+    Verb::Collapse,
+    Verb::Undo,
+    Verb::Redo,
+];
+
 impl Verb {
+    // Its word.
+    fn word(self) -> &'static [u8]
+        ensures { result.now ≡ verb_word self }
+    {
+        match self {
+            Verb::Show => b"show",
+            Verb::Print => b"print",
+            Verb::Fvec => b"fvec",
+            Verb::Hvec => b"hvec",
+            Verb::Gvec => b"gvec",
+            Verb::Euler => b"euler",
+            Verb::Faces => b"faces",
+            Verb::Degree => b"degree",
+            Verb::Betti => b"betti",
+            Verb::Components => b"components",
+            Verb::Closed => b"closed",
+            Verb::Strong => b"strong",
+            Verb::Flip => b"flip",
+            Verb::Add => b"add",
+            Verb::Drop => b"drop",
+            Verb::Collapse => b"collapse",
+            Verb::Undo => b"undo",
+            Verb::Redo => b"redo",
+        }
+    }
+
     /// The verb with these bytes. None exactly where they are none's.
     pub fn of(word: &[u8]) -> Option<Verb>
-        ensures verb { result ≡ verb_of word.now }
-        ensures word { IfSome result (λ v. word.now ≡ verb_word v) }
+        ensures { result ≡ verb_of word.now }
     {
-        match word {
-            b"show" => Some(Verb::Show),
-            b"print" => Some(Verb::Print),
-            b"flip" => Some(Verb::Flip),
-            b"undo" => Some(Verb::Undo),
-            b"redo" => Some(Verb::Redo),
-            _ => None,
-        }
+        VERBS.iter().copied().find(|verb| word == verb.word())
     }
 }

@@ -1,2 +1,2 @@
-mod StateLaws
+pub mod StateLaws
 mod StepLaws

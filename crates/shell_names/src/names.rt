@@ -250,8 +250,8 @@ impl Names {
         Some(&self.entries[place_of(&self.entries, name)?])
     }
 
-    // The sum of the weights of the present complexes of the other names.
-    fn weight_without(&self, name: &Name) -> u64
+    /// The sum of the weights of the present complexes of the other names.
+    pub fn weight_without(&self, name: &Name) -> u64
         ensures { result + weight (present self.now name.now) ≡ total_weight self.now }
     {
         match self.entry(name) {

@@ -100,6 +100,7 @@ fn the_weight_replaced_does_not_count(rt: HostRuntime) -> Result<(), Fail> {
     assert_eq!(rt; names.weight(), 12);
     assign(&rt, &mut names, &y, edge)?;
     assert_eq!(rt; names.weight(), 16);
+    assert_eq!(rt; names.weight_without(&x), 4);
     assert_eq!(rt; names.weight_after(&y, &edge_and_point), 20);
     assert_eq!(rt; names.weight_after(&x, &edge_and_point), 12);
     edit(&rt, &mut names, &x, edge_and_point)?;

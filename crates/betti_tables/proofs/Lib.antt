@@ -1,0 +1,7 @@
+pub mod BoundaryLaws
+mod BuiltLaws
+pub mod FaceLaws
+mod FilledLaws
+pub mod LimitLaws
+mod NameLaws
+pub mod TableLaws

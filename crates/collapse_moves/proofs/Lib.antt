@@ -1,0 +1,3 @@
+pub mod CollapseLaws
+pub mod FreeLaws
+pub mod HolderLaws

@@ -1,0 +1,3 @@
+pub mod Collapses
+pub mod Holders
+pub mod Laws

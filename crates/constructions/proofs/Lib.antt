@@ -1,0 +1,15 @@
+pub mod CountLaws
+pub mod CyclicLaws
+pub mod FrontLaws
+pub mod GluingLaws
+pub mod JoinFaces
+pub mod JoinLaws
+pub mod LevelLaws
+pub mod MapLaws
+pub mod NearLaws
+pub mod RankedLaws
+pub mod RelabelLaws
+pub mod RunLaws
+pub mod SetLaws
+pub mod SphereLaws
+pub mod StackedLaws

@@ -1,0 +1,11 @@
+pub mod Cyclic
+pub mod Gluing
+pub mod Joins
+pub mod Laws
+pub mod Nearness
+pub mod Ranked
+pub mod Relabelling
+pub mod Runs
+pub mod Spheres
+pub mod Stacked
+pub mod Twins

@@ -1,0 +1,99 @@
+// All allowed flips of a class.
+ghost use Rattle.std.specs.Prelude.{◌≡◌, ◌<◌, [], ◌∷◌, IsTrue, IfOk, map};
+ghost use Rattle.std.specs.List.{filter_map};
+ghost use Rattle.simplex.specs.Simplex.{is_label};
+ghost use Rattle.facet_set.specs.Flips.{options};
+ghost use Rattle.facet_set.specs.Numbers.{is_pure, size};
+ghost use Rattle.indexmap.specs.IndexMap.{get};
+ghost use Rattle.flip_rules.specs.Tallies.{same, option_at, flip_of};
+
+use crate::tallies::{Sizes, Tallies, faces_of_size, option_at, tallies_of};
+use facet_set::Facets;
+use simplex::{Flip, Flips, Memory, Simplex};
+use std::alloc::{AllocError, Global};
+
+/// All allowed flips of the class, which is the number of labels of B less one, in the order of A (Pachner; Bjorner and Lutz). Of
+/// class 0 are those that put in the least label that is no vertex. The time is in proportion to the number of facets, times 2 to
+/// the number of labels of one.
+pub fn options(alloc: Global, c: &Facets, class: usize) -> Result<Flips, Memory>
+    ensures { IfOk result (λ l. l ≡ options c.now class) }
+{
+    if !c.is_pure() || c.size() <= class {
+        return Ok(Flips::new(alloc));
+    }
+    if class == 0 {
+        subdivisions(alloc, c)
+    } else {
+        exchanges(alloc, c, class)
+    }
+}
+
+// The options of class 0.
+fn subdivisions(alloc: Global, c: &Facets) -> Result<Flips, Memory>
+    requires pure { IsTrue (is_pure c.now) }
+    requires below { 0 < size c.now }
+    ensures { IfOk result (λ l. l ≡ options c.now 0) }
+{
+    match c.fresh()? {
+        Some(label) => {
+            let flips = with_point(alloc, c.as_slice(), &point(label))?;
+            Ok(Flips::from_vec(flips))
+        }
+        None => Ok(Flips::new(alloc)),
+    }
+}
+
+// The flips that put the point into each of the facets.
+fn with_point(alloc: Global, facets: &[Simplex], b: &Simplex) -> Result<Vec<Flip>, AllocError>
+    ensures { IfOk result (λ v. v.items ≡ map (λ a. flip_of a b.now) facets.now) }
+{
+    facets.iter().map(|a| flip_of(a, b)).collect(alloc)
+}
+
+fn flip_of(a: &Simplex, b: &Simplex) -> Flip
+    ensures { result ≡ flip_of a.now b.now }
+{
+    Flip { a: *a, b: *b }
+}
+
+fn point(label: u32) -> Simplex
+    requires { IsTrue (is_label label) }
+    ensures { result ≡ label ∷ [] }
+{
+    match Simplex::of(&[label]) {
+        Ok(point) => point,
+        Err(_) => unreachable!(),
+    }
+}
+
+// The options of a class that is not 0.
+fn exchanges(alloc: Global, c: &Facets, class: usize) -> Result<Flips, Memory>
+    requires pure { IsTrue (is_pure c.now) }
+    requires above { 0 < class }
+    requires below { class < size c.now }
+    ensures { IfOk result (λ l. l ≡ options c.now class) }
+{
+    let sizes = Sizes {
+        gone: c.size() - class,
+        come: class + 1,
+    };
+    let tallies = tallies_of(alloc, c.as_slice(), sizes)?;
+    let faces = faces_of_size(&tallies, sizes.gone)?;
+    let flips = flips_at(alloc, &tallies, &faces, sizes.come)?;
+    Ok(Flips::from_vec(flips))
+}
+
+// The flips at the faces where there is one.
+fn flips_at(
+    alloc: Global,
+    tallies: &Tallies,
+    faces: &[Simplex],
+    count: usize,
+) -> Result<Vec<Flip>, AllocError>
+    ensures { IfOk result (λ v. v.items ≡ filter_map (option_at (get same tallies.now) count) faces.now) }
+{
+    faces
+        .iter()
+        .filter_map(|a| option_at(tallies, a, count))
+        .collect(alloc)
+}

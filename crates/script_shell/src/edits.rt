@@ -1,0 +1,85 @@
+// The complex after an edit, where no condition before those on the state after it refuses the edit.
+ghost use Rattle.std.specs.Prelude.{◌≡◌, None, IfOk, OnOk, IfErr, IsTrue};
+ghost use Rattle.simplex.specs.FirstFailing.{first_failing};
+ghost use Rattle.script_shell.specs.Commands.{adding, collapsing, dropping, editing_tests, flipping};
+ghost use Rattle.script_shell.specs.Edits.{editing, makes_anew};
+ghost use Rattle.script_shell.specs.Stops.{StopsAt};
+
+use crate::lists::{simplex_first, simplices_first};
+use crate::parts::not_void;
+use crate::stop::Stop;
+use collapse_moves::{add_facet, check_free, drop_facet};
+use facet_set::Facets;
+use flip_rules::{apply, check};
+use script_text::{Condition, Edit};
+use simplex::{Flip, Numbers};
+use std::alloc::Global;
+
+/// The complex that the edit makes of this one.
+pub fn next(alloc: Global, complex: &Facets, edit: &Edit) -> Result<Facets, Stop>
+    requires { IsTrue (makes_anew edit.now) }
+    ensures passed { OnOk result (first_failing (editing_tests (editing complex.now edit.now)) ≡ None) }
+    ensures complex { IfOk result (λ next. next ≡ (editing complex.now edit.now).complex) }
+    ensures refused { IfErr result (λ stop. StopsAt stop (first_failing (editing_tests (editing complex.now edit.now)))) }
+{
+    match edit {
+        Edit::Flip { a, b } => flipped(alloc, complex, a, b),
+        Edit::Add { face } => added(alloc, complex, face),
+        Edit::Drop { face } => dropped(alloc, complex, face),
+        Edit::Collapse { face } => collapsed(alloc, complex, face),
+        Edit::Undo | Edit::Redo => unreachable!(),
+    }
+}
+
+// The complex after the flip.
+fn flipped(alloc: Global, complex: &Facets, a: &Numbers, b: &Numbers) -> Result<Facets, Stop>
+    ensures passed { OnOk result (first_failing (editing_tests (flipping complex.now a.now b.now)) ≡ None) }
+    ensures complex { IfOk result (λ next. next ≡ (flipping complex.now a.now b.now).complex) }
+    ensures refused { IfErr result (λ stop. StopsAt stop (first_failing (editing_tests (flipping complex.now a.now b.now)))) }
+{
+    let pair = simplices_first(alloc, a, b)?;
+    not_void(complex)?;
+    let flip = Flip {
+        a: pair.0,
+        b: pair.1,
+    };
+    check(complex, &flip)?;
+    Ok(apply(alloc, complex, &flip)?)
+}
+
+// The complex with the simplex as one facet more.
+fn added(alloc: Global, complex: &Facets, face: &Numbers) -> Result<Facets, Stop>
+    ensures passed { OnOk result (first_failing (editing_tests (adding complex.now face.now)) ≡ None) }
+    ensures complex { IfOk result (λ next. next ≡ (adding complex.now face.now).complex) }
+    ensures refused { IfErr result (λ stop. StopsAt stop (first_failing (editing_tests (adding complex.now face.now)))) }
+{
+    let s = simplex_first(alloc, face)?;
+    if complex.has_face(&s) {
+        return Err(Stop::Refused(Condition::IsFace));
+    }
+    Ok(add_facet(alloc, complex, &s)?)
+}
+
+// The complex without the facet, whose other faces stay.
+fn dropped(alloc: Global, complex: &Facets, face: &Numbers) -> Result<Facets, Stop>
+    ensures passed { OnOk result (first_failing (editing_tests (dropping complex.now face.now)) ≡ None) }
+    ensures complex { IfOk result (λ next. next ≡ (dropping complex.now face.now).complex) }
+    ensures refused { IfErr result (λ stop. StopsAt stop (first_failing (editing_tests (dropping complex.now face.now)))) }
+{
+    let s = simplex_first(alloc, face)?;
+    if !complex.is_facet(&s) {
+        return Err(Stop::Refused(Condition::NotFacet));
+    }
+    Ok(drop_facet(alloc, complex, &s)?)
+}
+
+// The complex after the elementary collapse.
+fn collapsed(alloc: Global, complex: &Facets, face: &Numbers) -> Result<Facets, Stop>
+    ensures passed { OnOk result (first_failing (editing_tests (collapsing complex.now face.now)) ≡ None) }
+    ensures complex { IfOk result (λ next. next ≡ (collapsing complex.now face.now).complex) }
+    ensures refused { IfErr result (λ stop. StopsAt stop (first_failing (editing_tests (collapsing complex.now face.now)))) }
+{
+    let s = simplex_first(alloc, face)?;
+    check_free(complex, &s)?;
+    Ok(collapse_moves::collapse(alloc, complex, &s)?)
+}
