@@ -4,6 +4,7 @@ pub mod Cutting
 pub mod FaceCounts
 pub mod Listing
 pub mod Makers
+pub mod Options
 pub mod Refusals
 pub mod Renaming
 pub mod Streaming

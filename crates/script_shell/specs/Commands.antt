@@ -1,7 +1,7 @@
 -- Each command: its conditions in order, the state after it and the reply.
 use Rattle.std.specs.Prelude.{ℕ, ◌+◌, ℤ, pos, Bool, ◌||◌, ◌&&◌, ◌==◌, slice_index_or, not, List, [], ◌∷◌, ◌++◌, map, length, Option, Some, None, codes, decimal, nat_lt, nat_le, if◌then◌else◌}
 use Rattle.std.specs.Fmt.{signed_decimal}
-use Rattle.std.specs.List.{flat_map, list_all}
+use Rattle.std.specs.List.{flat_map, list_all, range_with_len}
 use Rattle.simplex.specs.FirstFailing.{first_failing}
 use Rattle.simplex.specs.Simplex.{is_label}
 use Rattle.simplex.specs.SimplexFault.{set, simplex_tests}
@@ -10,10 +10,12 @@ use Rattle.simplex.specs.declared.simplex_fault.SimplexFault.{SimplexFault}
 use Rattle.simplex.specs.declared.simplex_fault.SimplexFault.TheVariants.{Long, Label, Twice}
 use Rattle.facet_set.specs.Complex.{generated, is_face, stands_in}
 use Rattle.facet_set.specs.Connection.{components, is_closed, is_strong}
-use Rattle.facet_set.specs.Flips.{flip}
-use Rattle.facet_set.specs.Numbers.{degree, f_vector, faces_of_size, is_pure}
+use Rattle.facet_set.specs.Flips.{flip, options}
+use Rattle.facet_set.specs.Numbers.{degree, f_vector, faces_of_size, is_pure, size}
 use Rattle.facet_set.specs.Parts.{boundary, deletion, link, skeleton, star}
 use Rattle.facet_set.specs.Maps.{image}
+use Rattle.annealer.specs.Budget.{is_in_budget}
+use Rattle.annealer.specs.Walk.{goal, to_goal, walk}
 use Rattle.betti_tables.specs.Ranks.{betti_vector}
 use Rattle.gf2_rank.specs.Matrix.{side_limit}
 use Rattle.constructions.specs.Cyclic.{cyclic, cyclic_limits}
@@ -32,7 +34,7 @@ use Rattle.flip_rules.specs.Tests.{flip_tests}
 use Rattle.flip_rules.specs.declared.flip_fault.FlipFault.{FlipFault}
 use Rattle.flip_rules.specs.declared.flip_fault.FlipFault.TheVariants as fault
 use Rattle.script_text.specs.Condition.{condition_name}
-use Rattle.script_text.specs.Printing.{facets_text, integers_text}
+use Rattle.script_text.specs.Printing.{bracketed_text, facets_text, integers_text, simplex_text}
 use Rattle.script_text.specs.declared.command.Command.{Command}
 use Rattle.script_text.specs.declared.command.Command.TheVariants as command
 use Rattle.script_text.specs.declared.command.Maker.{Maker}
@@ -78,6 +80,17 @@ numbers_reply word zs = line (word ++ integers_text zs)
 -- the reply that says yes or no behind a word and its space
 abbrev pub yes_or_no : List ℕ → Bool → List ℕ
 yes_or_no word b = line (word ++ (if b then codes "yes" else codes "no"))
+
+-- the texts of a flip and of a list of flips
+abbrev pub flip_text : Flip → List ℕ
+flip_text m = bracketed_text (simplex_text m.a ∷ simplex_text m.b ∷ [])
+
+abbrev pub flips_text : List Flip → List ℕ
+flips_text ms = bracketed_text (map flip_text ms)
+
+-- the reply of a walk: the number of flips to its goal, and the number of facets of the goal
+abbrev pub reduced_reply : List Flip → Complex → List ℕ
+reduced_reply ms c = line (codes "reduced " ++ decimal (length ms) ++ 32 ∷ decimal (length c))
 
 -- ---- conditions of several commands
 
@@ -229,6 +242,14 @@ asking c question.Betti =
       own = (list_all (λ n. nat_le n side_limit) (f_vector c), condition.RankLimit) ∷ [];
       reply = numbers_reply (codes "betti ") (betti_vector c);
     }
+asking c question.Options =
+    record { lists = []; own = pure_tests (c ∷ []); reply = numbers_reply (codes "options ") (map (λ i. pos (length (options c i))) (range_with_len 0 (size c))) }
+asking c (question.OptionsOf class) =
+    record {
+      lists = [];
+      own = pure_tests (c ∷ []) ++ (nat_lt class (size c), condition.Range) ∷ [];
+      reply = line (codes "options " ++ flips_text (options c class));
+    }
 
 -- the conditions of a question, without that on the name
 abbrev pub asking_tests : Asking → List Test
@@ -303,6 +324,21 @@ collapsing c face =
       reply = ok_reply (collapse c (set face));
     }
 
+-- a walk of so many flips from the complex stays within the limits, where it has a dimension of at least 0
+abbrev pub walk_tests : Complex → ℕ → List Test
+walk_tests c budget = (nat_lt 0 (size c), condition.DimRange) ∷ (is_in_budget c budget, condition.Budget) ∷ []
+
+-- the goal of the walk comes in place of the complex
+abbrev pub reducing : Complex → ℕ → ℕ → Editing
+reducing c budget seed =
+    let flips = walk c seed budget in
+    record {
+      lists = [];
+      own = pure_tests (c ∷ []) ++ walk_tests c budget;
+      complex = goal c flips;
+      reply = reduced_reply (to_goal c flips) (goal c flips);
+    }
+
 -- the conditions before those on the state after the change, without that on the name
 abbrev pub editing_tests : Editing → List Test
 editing_tests e = flat_map list_tests e.lists ++ e.own
@@ -348,6 +384,7 @@ changing limits s x (edit.Flip a b) = change limits s x (flipping (present s x) 
 changing limits s x (edit.Add face) = change limits s x (adding (present s x) face)
 changing limits s x (edit.Drop face) = change limits s x (dropping (present s x) face)
 changing limits s x (edit.Collapse face) = change limits s x (collapsing (present s x) face)
+changing limits s x (edit.Reduce budget seed) = change limits s x (reducing (present s x) budget seed)
 changing limits s x edit.Undo = undo limits s x
 changing limits s x edit.Redo = redo limits s x
 

@@ -3,7 +3,7 @@ use Rattle.std.specs.Prelude.{Bool, true, false, []}
 use Rattle.script_text.specs.declared.command.Edit.{Edit}
 use Rattle.script_text.specs.declared.command.Edit.TheVariants as edit
 use Rattle.shell_names.specs.State.{Complex}
-use Rattle.script_shell.specs.Commands.{Editing, adding, collapsing, dropping, flipping, ok_reply}
+use Rattle.script_shell.specs.Commands.{Editing, adding, collapsing, dropping, flipping, ok_reply, reducing}
 
 -- whether the edit makes the complex anew, as all do but undo and redo
 abbrev pub makes_anew : Edit → Bool
@@ -13,6 +13,7 @@ makes_anew (edit.Flip a b) = true
 makes_anew (edit.Add face) = true
 makes_anew (edit.Drop face) = true
 makes_anew (edit.Collapse face) = true
+makes_anew (edit.Reduce budget seed) = true
 
 -- what it asks and makes, and nothing where it makes no complex anew
 abbrev pub editing : Complex → Edit → Editing
@@ -20,5 +21,6 @@ editing c (edit.Flip a b) = flipping c a b
 editing c (edit.Add face) = adding c face
 editing c (edit.Drop face) = dropping c face
 editing c (edit.Collapse face) = collapsing c face
+editing c (edit.Reduce budget seed) = reducing c budget seed
 editing c edit.Undo = record { lists = []; own = []; complex = c; reply = ok_reply c }
 editing c edit.Redo = record { lists = []; own = []; complex = c; reply = ok_reply c }

@@ -11,12 +11,14 @@ use crate::counting;
 use crate::counting::counts;
 use crate::lists::simplex_first;
 use crate::parts::not_void;
+use crate::purity::pure;
 use crate::replies::{
-    faces_reply, facets_reply, number_reply, numbers_reply, row_reply, yes_or_no,
+    faces_reply, facets_reply, flips_reply, number_reply, numbers_reply, row_reply, yes_or_no,
 };
 use crate::stop::Stop;
 use face_vectors::{euler, f, g, h};
 use facet_set::Facets;
+use flip_rules::options;
 use local_parts::{components, is_closed, is_strong};
 use script_text::{Condition, Name, Question};
 use shell_names::{Names, WEIGHT_LIMIT};
@@ -70,6 +72,8 @@ fn answer(alloc: Global, complex: &Facets, question: &Question) -> Result<Text, 
         Question::Components => Ok(component_count(alloc, complex)?),
         Question::Closed => closed(alloc, complex),
         Question::Strong => strong(alloc, complex),
+        Question::Options => option_counts(alloc, complex),
+        Question::OptionsOf { class } => options_of(alloc, complex, *class),
     }
 }
 
@@ -162,4 +166,29 @@ fn strong(alloc: Global, complex: &Facets) -> Result<Text, Stop>
     not_void(complex)?;
     let strong = is_strong(alloc, complex)?;
     Ok(yes_or_no(alloc, b"strong ", strong)?)
+}
+
+// How many flips of each class it allows.
+fn option_counts(alloc: Global, complex: &Facets) -> Result<Text, Stop>
+    ensures passed { OnOk result (first_failing (asking_tests (asking complex.now Question.Options)) ≡ None) }
+    ensures text { IfOk result (λ text. text ≡ (asking complex.now Question.Options).reply) }
+    ensures refused { IfErr result (λ stop. StopsAt stop (first_failing (asking_tests (asking complex.now Question.Options)))) }
+{
+    pure(complex)?;
+    let counts = counting::option_counts(alloc, complex)?;
+    Ok(numbers_reply(alloc, b"options ", counts.as_slice())?)
+}
+
+// The flips of the class that it allows.
+fn options_of(alloc: Global, complex: &Facets, class: u64) -> Result<Text, Stop>
+    ensures passed { OnOk result (first_failing (asking_tests (asking complex.now (Question.OptionsOf class))) ≡ None) }
+    ensures text { IfOk result (λ text. text ≡ (asking complex.now (Question.OptionsOf class)).reply) }
+    ensures refused { IfErr result (λ stop. StopsAt stop (first_failing (asking_tests (asking complex.now (Question.OptionsOf class))))) }
+{
+    pure(complex)?;
+    if class >= complex.size() as u64 {
+        return Err(Stop::Refused(Condition::Range));
+    }
+    let flips = options(alloc, complex, class as usize)?;
+    Ok(flips_reply(alloc, flips.as_slice())?)
 }

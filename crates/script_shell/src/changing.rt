@@ -1,16 +1,16 @@
 ghost use Rattle.std.specs.Prelude.{◌≡◌, [], ◌∷◌, None, IfOk, OnOk, IfErr, OnErr, IsTrue};
 ghost use Rattle.simplex.specs.FirstFailing.{first_failing};
 ghost use Rattle.shell_names.specs.State.{present, holds, undone, redone};
-ghost use Rattle.script_shell.specs.Commands.{ok_reply, change, changing, undo, redo, weight_test, journal_test, after_edit};
+ghost use Rattle.script_shell.specs.Commands.{change, changing, undo, redo, weight_test, journal_test, after_edit};
 ghost use Rattle.script_shell.specs.Edits.{editing, makes_anew};
 ghost use Rattle.script_shell.specs.Limits.{IsWithinStandard};
 ghost use Rattle.script_shell.specs.Stops.{StopsAt};
 
 use crate::Limits;
+use crate::edited::Edited;
 use crate::edits::next;
 use crate::replies::ok_reply;
 use crate::stop::Stop;
-use facet_set::Facets;
 use script_text::{Condition, Edit, Name};
 use shell_names::Names;
 use simplex::Text;
@@ -34,9 +34,11 @@ pub fn change(
     match edit {
         Edit::Undo => undo(alloc, limits, names, name),
         Edit::Redo => redo(alloc, limits, names, name),
-        Edit::Flip { .. } | Edit::Add { .. } | Edit::Drop { .. } | Edit::Collapse { .. } => {
-            replace(alloc, limits, names, name, edit)
-        }
+        Edit::Flip { .. }
+        | Edit::Add { .. }
+        | Edit::Drop { .. }
+        | Edit::Collapse { .. }
+        | Edit::Reduce { .. } => replace(alloc, limits, names, name, edit),
     }
 }
 
@@ -51,7 +53,7 @@ fn replace(
     requires standard { IsWithinStandard limits }
     requires anew { IsTrue (makes_anew edit.now) }
     ensures passed { OnOk result (first_failing (change limits names.old name.now (editing (present names.old name.now) edit.now)).tests ≡ None) }
-    ensures text { IfOk result (λ text. text ≡ ok_reply (editing (present names.old name.now) edit.now).complex) }
+    ensures text { IfOk result (λ text. text ≡ (editing (present names.old name.now) edit.now).reply) }
     ensures state { OnOk result (names.new ≡ after_edit names.old name.now (editing (present names.old name.now) edit.now).complex) }
     ensures refused { IfErr result (λ stop. StopsAt stop (first_failing (change limits names.old name.now (editing (present names.old name.now) edit.now)).tests)) }
     ensures err { OnErr result (names.new ≡ names.old) }
@@ -60,34 +62,27 @@ fn replace(
         return Err(Stop::Refused(Condition::NoName));
     };
     let next = next(alloc, complex, edit)?;
-    put(alloc, limits, names, name, next)
+    put(limits, names, name, next)
 }
 
 // Puts the complex in place of the present one, where the weights and the changes stay within the limits.
-fn put(
-    alloc: Global,
-    limits: Limits,
-    names: &mut Names,
-    name: &Name,
-    next: Facets,
-) -> Result<Text, Stop>
+fn put(limits: Limits, names: &mut Names, name: &Name, next: Edited) -> Result<Text, Stop>
     requires standard { IsWithinStandard limits }
     requires held { IsTrue (holds names.old name.now) }
-    ensures passed { OnOk result (first_failing (weight_test limits (after_edit names.old name.now next) ∷ journal_test limits (after_edit names.old name.now next) ∷ []) ≡ None) }
-    ensures text { IfOk result (λ text. text ≡ ok_reply next) }
-    ensures state { OnOk result (names.new ≡ after_edit names.old name.now next) }
-    ensures refused { IfErr result (λ stop. StopsAt stop (first_failing (weight_test limits (after_edit names.old name.now next) ∷ journal_test limits (after_edit names.old name.now next) ∷ []))) }
+    ensures passed { OnOk result (first_failing (weight_test limits (after_edit names.old name.now next.complex) ∷ journal_test limits (after_edit names.old name.now next.complex) ∷ []) ≡ None) }
+    ensures text { IfOk result (λ text. text ≡ next.reply) }
+    ensures state { OnOk result (names.new ≡ after_edit names.old name.now next.complex) }
+    ensures refused { IfErr result (λ stop. StopsAt stop (first_failing (weight_test limits (after_edit names.old name.now next.complex) ∷ journal_test limits (after_edit names.old name.now next.complex) ∷ []))) }
     ensures err { OnErr result (names.new ≡ names.old) }
 {
-    if names.weight_after(name, &next) > limits.weight {
+    if names.weight_after(name, &next.complex) > limits.weight {
         return Err(Stop::Refused(Condition::SizeLimit));
     }
-    if names.journal_after_edit(name, &next)? > limits.journal {
+    if names.journal_after_edit(name, &next.complex)? > limits.journal {
         return Err(Stop::Refused(Condition::JournalFull));
     }
-    let text = ok_reply(alloc, &next)?;
-    names.edit(name, next)?;
-    Ok(text)
+    names.edit(name, next.complex)?;
+    Ok(next.reply)
 }
 
 fn undo(alloc: Global, limits: Limits, names: &mut Names, name: &Name) -> Result<Text, Stop>

@@ -1,9 +1,11 @@
-ghost use Rattle.std.specs.Prelude.{◌≡◌, ◌≤◌, ◌<◌, ◌+◌, ◌⊎◌, None, Some, map, pos, IfOk, OnOk, IfErr};
+ghost use Rattle.std.specs.Prelude.{◌≡◌, ◌≤◌, ◌<◌, ◌+◌, ◌⊎◌, None, Some, map, pos, length, IfOk, OnOk, IfErr};
+ghost use Rattle.std.specs.List.{range_with_len};
 ghost use Rattle.betti_tables.specs.Betti.{numbers as betti_numbers};
 ghost use Rattle.betti_tables.specs.Limits.{limit_fault};
 ghost use Rattle.betti_tables.specs.Ranks.{betti_vector};
 ghost use Rattle.betti_tables.specs.declared.betti_fault.BettiFault.TheVariants as fault;
-ghost use Rattle.facet_set.specs.Numbers.{degree, f_vector, faces_of_size, weight};
+ghost use Rattle.facet_set.specs.Flips.{options};
+ghost use Rattle.facet_set.specs.Numbers.{degree, f_vector, faces_of_size, size, weight};
 ghost use Rattle.face_vectors.specs.Counts.{numbers, IsWithinLimits};
 ghost use Rattle.shell_names.specs.Limits.{weight_limit};
 
@@ -11,7 +13,8 @@ use betti_tables::{Betti, BettiFault, RankTable};
 use face_lattice::Lattice;
 use face_vectors::Counts;
 use facet_set::Facets;
-use simplex::{LEN_LIMIT, Memory, Simplex, Simplices, Steps};
+use flip_rules::options;
+use simplex::{LEN_LIMIT, Memory, Numbers, Simplex, Simplices, Steps};
 use std::alloc::Global;
 use std::marker::Brand;
 use std::sync::ledger::{Blank, Ledger};
@@ -90,4 +93,17 @@ pub fn degree(complex: &Facets, s: &Simplex) -> usize
         .iter()
         .filter(|facet| s.within(facet))
         .count()
+}
+
+/// How many flips of each class the complex allows, for the classes from 0 to its dimension.
+#[tactic(auto, using(crate::proofs::Options::more_counts))]
+pub fn option_counts(alloc: Global, complex: &Facets) -> Result<Numbers, Memory>
+    ensures { IfOk result (λ counts. counts ≡ map (λ i. length (options complex.now i)) (range_with_len 0 (size complex.now))) }
+{
+    let mut counts = Numbers::new(alloc);
+    for class in 0..complex.size() {
+        let flips = options(alloc, complex, class)?;
+        counts.push(flips.len() as u64)?;
+    }
+    Ok(counts)
 }

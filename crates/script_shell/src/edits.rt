@@ -1,34 +1,48 @@
-// The complex after an edit, where no condition before those on the state after it refuses the edit.
+// What an edit comes to, where no condition before those on the state after it refuses the edit.
 ghost use Rattle.std.specs.Prelude.{◌≡◌, None, IfOk, OnOk, IfErr, IsTrue};
 ghost use Rattle.simplex.specs.FirstFailing.{first_failing};
-ghost use Rattle.script_shell.specs.Commands.{adding, collapsing, dropping, editing_tests, flipping};
+ghost use Rattle.script_shell.specs.Commands.{adding, collapsing, dropping, editing_tests, flipping, ok_reply};
 ghost use Rattle.script_shell.specs.Edits.{editing, makes_anew};
 ghost use Rattle.script_shell.specs.Stops.{StopsAt};
 
+use crate::edited::Edited;
 use crate::lists::{simplex_first, simplices_first};
 use crate::parts::not_void;
+use crate::reducing::reduced;
+use crate::replies::ok_reply;
 use crate::stop::Stop;
 use collapse_moves::{add_facet, check_free, drop_facet};
 use facet_set::Facets;
 use flip_rules::{apply, check};
 use script_text::{Condition, Edit};
-use simplex::{Flip, Numbers};
+use simplex::{Flip, Memory, Numbers};
 use std::alloc::Global;
 
-/// The complex that the edit makes of this one.
-pub fn next(alloc: Global, complex: &Facets, edit: &Edit) -> Result<Facets, Stop>
+/// The complex that the edit makes of this one, and the reply.
+pub fn next(alloc: Global, complex: &Facets, edit: &Edit) -> Result<Edited, Stop>
     requires { IsTrue (makes_anew edit.now) }
     ensures passed { OnOk result (first_failing (editing_tests (editing complex.now edit.now)) ≡ None) }
-    ensures complex { IfOk result (λ next. next ≡ (editing complex.now edit.now).complex) }
+    ensures complex { IfOk result (λ next. next.complex ≡ (editing complex.now edit.now).complex) }
+    ensures reply { IfOk result (λ next. next.reply ≡ (editing complex.now edit.now).reply) }
     ensures refused { IfErr result (λ stop. StopsAt stop (first_failing (editing_tests (editing complex.now edit.now)))) }
 {
     match edit {
-        Edit::Flip { a, b } => flipped(alloc, complex, a, b),
-        Edit::Add { face } => added(alloc, complex, face),
-        Edit::Drop { face } => dropped(alloc, complex, face),
-        Edit::Collapse { face } => collapsed(alloc, complex, face),
+        Edit::Flip { a, b } => Ok(counted(alloc, flipped(alloc, complex, a, b)?)?),
+        Edit::Add { face } => Ok(counted(alloc, added(alloc, complex, face)?)?),
+        Edit::Drop { face } => Ok(counted(alloc, dropped(alloc, complex, face)?)?),
+        Edit::Collapse { face } => Ok(counted(alloc, collapsed(alloc, complex, face)?)?),
+        Edit::Reduce { budget, seed } => reduced(alloc, complex, *budget, *seed),
         Edit::Undo | Edit::Redo => unreachable!(),
     }
+}
+
+// The complex with the reply that counts its facets.
+fn counted(alloc: Global, complex: Facets) -> Result<Edited, Memory>
+    ensures complex { IfOk result (λ next. next.complex ≡ complex) }
+    ensures reply { IfOk result (λ next. next.reply ≡ ok_reply complex) }
+{
+    let reply = ok_reply(alloc, &complex)?;
+    Ok(Edited { complex, reply })
 }
 
 // The complex after the flip.

@@ -191,19 +191,19 @@ fn an_undo_has_the_limit_of_weights(rt: HostRuntime) -> Result<(), Fail> {
     let alloc = rt.alloc();
     let mut shell = Shell::new(alloc, SMALL);
     for (command, reply) in [
-        ("C := [[1,2],[1,4],[2,3],[3,4]]", "ok 4\n"),
-        ("flip C [1] [2,4]", "ok 3\n"),
-        ("Y := [[1,2]]", "ok 1\n"),
-        ("undo C", "refused size_limit\n"),
+        ("X := bdsimplex 2", "ok 3\n"),
+        ("drop X [1,2]", "ok 2\n"),
+        ("Y := [[1,2],[3]]", "ok 2\n"),
+        ("undo X", "refused size_limit\n"),
     ] {
         let answered = answer(alloc, &mut shell, command)?;
         assert_eq!(rt; answered.text(), reply.as_bytes(), "at {command}");
     }
-    assert_eq!(rt; shell.past_len(&name("C")?), Some(1));
-    assert_eq!(rt; shell.future_len(&name("C")?), Some(0));
-    assert_eq!(rt; shell.past_len(&name("D")?), None);
-    let triangle = shell.present(&name("C")?)?.ok_or("not held")?;
-    assert_eq!(rt; triangle.as_slice().len(), 3);
+    assert_eq!(rt; shell.past_len(&name("X")?), Some(1));
+    assert_eq!(rt; shell.future_len(&name("X")?), Some(0));
+    assert_eq!(rt; shell.past_len(&name("Z")?), None);
+    let path = shell.present(&name("X")?)?.ok_or("not held")?;
+    assert_eq!(rt; path.as_slice().len(), 2);
     Ok(())
 }
 
@@ -300,6 +300,27 @@ fn betti_numbers_and_what_comes_before_a_construction(rt: HostRuntime) -> Result
             "S := relabel C [[4294967297,8],[2,0],[3,7]]",
             "refused not_map\n",
         ),
+    ] {
+        let answered = answer(alloc, &mut shell, command)?;
+        assert_eq!(rt; answered.text(), reply.as_bytes(), "at {command}");
+    }
+    Ok(())
+}
+
+#[test]
+fn options_and_walks_of_a_disk(rt: HostRuntime) -> Result<(), Fail> {
+    let alloc = rt.alloc();
+    let mut shell = Shell::new(alloc, Limits::STANDARD);
+    for (command, reply) in [
+        ("D := [[1,2,4],[1,3,4],[2,3,4]]", "ok 3\n"),
+        ("options D", "options [3,0,1]\n"),
+        ("options D 2", "options [[[4],[1,2,3]]]\n"),
+        ("options D 3", "refused range\n"),
+        ("reduce D 1 1", "reduced 1 1\n"),
+        ("reduce D 0 1", "reduced 0 1\n"),
+        ("undo D", "ok 1\n"),
+        ("undo D", "ok 3\n"),
+        ("reduce D 524287 1", "refused budget\n"),
     ] {
         let answered = answer(alloc, &mut shell, command)?;
         assert_eq!(rt; answered.text(), reply.as_bytes(), "at {command}");

@@ -141,6 +141,8 @@ guessed (command.Ask x question.Gvec) = refl
 guessed (command.Ask x question.Euler) = refl
 guessed (command.Ask x (question.Faces k)) = refl
 guessed (command.Ask x (question.Degree a)) = ap (of_one (λ a. Some (command.Ask x (question.Degree a)))) (one_taken a)
+guessed (command.Ask x question.Options) = refl
+guessed (command.Ask x (question.OptionsOf k)) = refl
 guessed (command.Ask x question.Betti) = refl
 guessed (command.Ask x question.Components) = refl
 guessed (command.Ask x question.Closed) = refl
@@ -149,6 +151,7 @@ guessed (command.Change x (edit.Flip a b)) = ap (of_two (λ a b. Some (command.C
 guessed (command.Change x (edit.Add a)) = ap (of_one (λ a. Some (command.Change x (edit.Add a)))) (one_taken a)
 guessed (command.Change x (edit.Drop a)) = ap (of_one (λ a. Some (command.Change x (edit.Drop a)))) (one_taken a)
 guessed (command.Change x (edit.Collapse a)) = ap (of_one (λ a. Some (command.Change x (edit.Collapse a)))) (one_taken a)
+guessed (command.Change x (edit.Reduce budget seed)) = refl
 guessed (command.Change x edit.Undo) = refl
 guessed (command.Change x edit.Redo) = refl
 

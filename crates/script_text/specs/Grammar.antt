@@ -61,6 +61,8 @@ question_tokens x question.Gvec = Word (codes "gvec") ∷ Word x ∷ []
 question_tokens x question.Euler = Word (codes "euler") ∷ Word x ∷ []
 question_tokens x (question.Faces k) = Word (codes "faces") ∷ Word x ∷ number k
 question_tokens x (question.Degree face) = Word (codes "degree") ∷ Word x ∷ list face
+question_tokens x question.Options = Word (codes "options") ∷ Word x ∷ []
+question_tokens x (question.OptionsOf class) = Word (codes "options") ∷ Word x ∷ number class
 question_tokens x question.Betti = Word (codes "betti") ∷ Word x ∷ []
 question_tokens x question.Components = Word (codes "components") ∷ Word x ∷ []
 question_tokens x question.Closed = Word (codes "closed") ∷ Word x ∷ []
@@ -72,6 +74,7 @@ edit_tokens x (edit.Flip a b) = Word (codes "flip") ∷ Word x ∷ list a ++ lis
 edit_tokens x (edit.Add face) = Word (codes "add") ∷ Word x ∷ list face
 edit_tokens x (edit.Drop face) = Word (codes "drop") ∷ Word x ∷ list face
 edit_tokens x (edit.Collapse face) = Word (codes "collapse") ∷ Word x ∷ list face
+edit_tokens x (edit.Reduce budget seed) = Word (codes "reduce") ∷ Word x ∷ number budget ++ number seed
 edit_tokens x edit.Undo = Word (codes "undo") ∷ Word x ∷ []
 edit_tokens x edit.Redo = Word (codes "redo") ∷ Word x ∷ []
 

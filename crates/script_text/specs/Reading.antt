@@ -9,6 +9,7 @@ use Rattle.script_text.specs.declared.command.Command.{Command}
 use Rattle.script_text.specs.declared.command.Command.TheVariants as command
 use Rattle.script_text.specs.declared.command.Maker.{Maker}
 use Rattle.script_text.specs.declared.command.Maker.TheVariants as maker
+use Rattle.script_text.specs.declared.command.Question.{Question}
 use Rattle.script_text.specs.declared.command.Question.TheVariants as question
 use Rattle.script_text.specs.declared.command.Edit.TheVariants as edit
 use Rattle.script_text.specs.Methods.{method_of, method_word}
@@ -96,6 +97,11 @@ abbrev pub made : List Token → Maker
 made (Word w ∷ ts) = unwrap_or (option_map (λ m. built m ts) (method_of w)) (maker.Facets [])
 made ts = maker.Facets (lists_in ts)
 
+-- the question for allowed flips: with a number for those of a class, and else for the numbers of each class
+abbrev pub options_by : List ℕ → Question
+options_by [] = question.Options
+options_by (k ∷ ks) = question.OptionsOf k
+
 -- the command that a verb and the tokens behind it may be
 abbrev pub spoken : Verb → List Token → Command
 spoken verb.Show ts = command.Show (lists_in ts)
@@ -106,6 +112,7 @@ spoken verb.Gvec ts = command.Ask (name_in ts) question.Gvec
 spoken verb.Euler ts = command.Ask (name_in ts) question.Euler
 spoken verb.Faces ts = command.Ask (name_in ts) (question.Faces (number_in 0 ts))
 spoken verb.Degree ts = command.Ask (name_in ts) (question.Degree (list_in 0 ts))
+spoken verb.Options ts = command.Ask (name_in ts) (options_by (numbers_in ts).0)
 spoken verb.Betti ts = command.Ask (name_in ts) question.Betti
 spoken verb.Components ts = command.Ask (name_in ts) question.Components
 spoken verb.Closed ts = command.Ask (name_in ts) question.Closed
@@ -114,6 +121,7 @@ spoken verb.Flip ts = command.Change (name_in ts) (edit.Flip (list_in 0 ts) (lis
 spoken verb.Add ts = command.Change (name_in ts) (edit.Add (list_in 0 ts))
 spoken verb.Drop ts = command.Change (name_in ts) (edit.Drop (list_in 0 ts))
 spoken verb.Collapse ts = command.Change (name_in ts) (edit.Collapse (list_in 0 ts))
+spoken verb.Reduce ts = command.Change (name_in ts) (edit.Reduce (number_in 0 ts) (number_in 1 ts))
 spoken verb.Undo ts = command.Change (name_in ts) edit.Undo
 spoken verb.Redo ts = command.Change (name_in ts) edit.Redo
 

@@ -13,6 +13,7 @@ verb_word verb.Gvec = codes "gvec"
 verb_word verb.Euler = codes "euler"
 verb_word verb.Faces = codes "faces"
 verb_word verb.Degree = codes "degree"
+verb_word verb.Options = codes "options"
 verb_word verb.Betti = codes "betti"
 verb_word verb.Components = codes "components"
 verb_word verb.Closed = codes "closed"
@@ -21,11 +22,12 @@ verb_word verb.Flip = codes "flip"
 verb_word verb.Add = codes "add"
 verb_word verb.Drop = codes "drop"
 verb_word verb.Collapse = codes "collapse"
+verb_word verb.Reduce = codes "reduce"
 verb_word verb.Undo = codes "undo"
 verb_word verb.Redo = codes "redo"
 
 abbrev pub verbs : List Verb
-verbs = verb.Show ∷ verb.Print ∷ verb.Fvec ∷ verb.Hvec ∷ verb.Gvec ∷ verb.Euler ∷ verb.Faces ∷ verb.Degree ∷ verb.Betti ∷ verb.Components ∷ verb.Closed ∷ verb.Strong ∷ verb.Flip ∷ verb.Add ∷ verb.Drop ∷ verb.Collapse ∷ verb.Undo ∷ verb.Redo ∷ []
+verbs = verb.Show ∷ verb.Print ∷ verb.Fvec ∷ verb.Hvec ∷ verb.Gvec ∷ verb.Euler ∷ verb.Faces ∷ verb.Degree ∷ verb.Options ∷ verb.Betti ∷ verb.Components ∷ verb.Closed ∷ verb.Strong ∷ verb.Flip ∷ verb.Add ∷ verb.Drop ∷ verb.Collapse ∷ verb.Reduce ∷ verb.Undo ∷ verb.Redo ∷ []
 
 -- the verb that a word is, if it is one
 abbrev pub verb_of : List ℕ → Option Verb

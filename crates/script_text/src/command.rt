@@ -118,6 +118,10 @@ pub enum Question {
     Faces { k: u64 },
     /// `degree X list`: how many of its facets contain the face.
     Degree { face: Numbers },
+    /// `options X`: the numbers of its allowed flips of class 0, 1, .. .
+    Options,
+    /// `options X K`: its allowed flips of class K.
+    OptionsOf { class: u64 },
     /// `betti X`: its Betti numbers over the field of two elements.
     Betti,
     /// `components X`: the number of its connected components.
@@ -139,6 +143,8 @@ pub enum Edit {
     Drop { face: Numbers },
     /// `collapse X list`: the elementary collapse from a free face.
     Collapse { face: Numbers },
+    /// `reduce X B SEED`: to the goal of a walk of at most B flips, chosen by the words of the seed.
+    Reduce { budget: u64, seed: u64 },
     /// `undo X`: back by one change.
     Undo,
     /// `redo X`: forth by one change that was undone.

@@ -19,6 +19,8 @@ pub enum Condition {
     Void,
     /// A complex is not pure.
     NotPure,
+    /// A complex has too small a dimension for the command.
+    DimRange,
     /// Two complexes have not the same dimension.
     DimDiffers,
     /// A simplex is no face.
@@ -45,6 +47,8 @@ pub enum Condition {
     Range,
     /// A matrix of Betti numbers would be too large.
     RankLimit,
+    /// A walk of so many flips would be too large.
+    Budget,
     /// The changes that are kept would be too large.
     JournalFull,
     /// There is nothing to undo.
@@ -69,6 +73,7 @@ impl Condition {
             Condition::SizeLimit => "size_limit",
             Condition::Void => "void",
             Condition::NotPure => "not_pure",
+            Condition::DimRange => "dim_range",
             Condition::DimDiffers => "dim_differs",
             Condition::NotFace => "not_face",
             Condition::NotFacet => "not_facet",
@@ -82,6 +87,7 @@ impl Condition {
             Condition::IsFace => "is_face",
             Condition::Range => "range",
             Condition::RankLimit => "rank_limit",
+            Condition::Budget => "budget",
             Condition::JournalFull => "journal_full",
             Condition::NoPast => "no_past",
             Condition::NoFuture => "no_future",

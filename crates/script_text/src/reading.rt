@@ -7,14 +7,15 @@ ghost use Rattle.script_text.specs.Tokens.{is_blank, is_in_comment, tokens};
 ghost use Rattle.script_text.specs.Verbs.{verb_word};
 ghost use Rattle.script_text.specs.declared.command.Command.{Command};
 ghost use Rattle.script_text.specs.declared.token.Token.TheVariants.{Assign, Word};
+ghost use Rattle.script_text.specs.declared.verb.Verb.TheVariants.{Options};
 
 use crate::bytes::is_white;
 use crate::method::Method;
 use crate::parts::{read_assign, read_word};
 use crate::verb::Verb;
 use crate::whole::{
-    name_list, name_lists, name_number, name_two_lists, three_numbers, two_name_lists, two_names,
-    two_numbers, whole_lists, whole_name, whole_number,
+    name_list, name_lists, name_number, name_numbers, name_two_lists, three_numbers,
+    two_name_lists, two_names, two_numbers, whole_lists, whole_name, whole_number,
 };
 use crate::{Command, CommandFault, Edit, Maker, Name, Question};
 use simplex::Memory;
@@ -168,6 +169,7 @@ fn read_spoken(alloc: Global, verb: Verb, bytes: &[u8]) -> Result<Option<Command
         Verb::Degree => {
             Ok(name_list(alloc, bytes)?.map(|(x, face)| ask(x, Question::Degree { face })))
         }
+        Verb::Options => Ok(read_options(bytes)),
         Verb::Betti => Ok(whole_name(bytes).map(|x| ask(x, Question::Betti))),
         Verb::Components => Ok(whole_name(bytes).map(|x| ask(x, Question::Components))),
         Verb::Closed => Ok(whole_name(bytes).map(|x| ask(x, Question::Closed))),
@@ -181,9 +183,24 @@ fn read_spoken(alloc: Global, verb: Verb, bytes: &[u8]) -> Result<Option<Command
         Verb::Collapse => {
             Ok(name_list(alloc, bytes)?.map(|(x, face)| change(x, Edit::Collapse { face })))
         }
+        Verb::Reduce => Ok(name_numbers(bytes).map(|(x, budget, seed)| change(
+            x,
+            Edit::Reduce { budget, seed },
+        ))),
         Verb::Undo => Ok(whole_name(bytes).map(|x| change(x, Edit::Undo))),
         Verb::Redo => Ok(whole_name(bytes).map(|x| change(x, Edit::Redo))),
     }
+}
+
+// The question for allowed flips: with a number behind the name for those of a class, and else for the numbers of each class.
+fn read_options(bytes: &[u8]) -> Option<Command>
+    ensures some { IfSome result (λ c. before (word (verb_word Options)) (tokens bytes.now) ≡ Some (command_tokens c)) }
+    ensures none { IsNone result → NoneSpoken Options (tokens bytes.now) }
+{
+    if let Some((x, class)) = name_number(bytes) {
+        return Some(ask(x, Question::OptionsOf { class }));
+    }
+    whole_name(bytes).map(|x| ask(x, Question::Options))
 }
 
 fn ask(name: Name, question: Question) -> Command

@@ -58,6 +58,11 @@ fn put_question(text: &mut Text, question: &Question) -> Result<(), Memory> {
             k.put(text)
         }
         Question::Degree { face } => put_part(text, b" Degree ", face),
+        Question::Options => text.extend(b" Options"),
+        Question::OptionsOf { class } => {
+            text.extend(b" OptionsOf")?;
+            put_counts(text, &[*class])
+        }
         Question::Betti => text.extend(b" Betti"),
         Question::Components => text.extend(b" Components"),
         Question::Closed => text.extend(b" Closed"),
@@ -132,6 +137,10 @@ fn put_edit(text: &mut Text, edit: &Edit) -> Result<(), Memory> {
         Edit::Add { face } => put_part(text, b" Add ", face),
         Edit::Drop { face } => put_part(text, b" Drop ", face),
         Edit::Collapse { face } => put_part(text, b" Collapse ", face),
+        Edit::Reduce { budget, seed } => {
+            text.extend(b" Reduce")?;
+            put_counts(text, &[*budget, *seed])
+        }
         Edit::Undo => text.extend(b" Undo"),
         Edit::Redo => text.extend(b" Redo"),
     }
@@ -225,6 +234,7 @@ fn each_first_word_is_a_name_too(rt: HostRuntime) -> Result<(), Fail> {
         b"sum",
         b"handle",
         b"relabel",
+        b"options",
         b"betti",
         b"components",
         b"closed",
@@ -232,6 +242,7 @@ fn each_first_word_is_a_name_too(rt: HostRuntime) -> Result<(), Fail> {
         b"add",
         b"drop",
         b"collapse",
+        b"reduce",
     ] {
         let mut bytes = Text::new(rt.alloc());
         bytes.extend(word)?;
@@ -294,6 +305,8 @@ fn the_first_word_makes_any_other_command(rt: HostRuntime) -> Result<(), Fail> {
             b"Ask X Faces 999999999999999999",
         ),
         (b"degree degree [2,2]", b"Ask degree Degree [2,2]"),
+        (b"options X", b"Ask X Options"),
+        (b"options options 2", b"Ask options OptionsOf 2"),
         (b"betti X", b"Ask X Betti"),
         (b"components X", b"Ask X Components"),
         (b"closed X", b"Ask X Closed"),
@@ -302,6 +315,7 @@ fn the_first_word_makes_any_other_command(rt: HostRuntime) -> Result<(), Fail> {
         (b"add X [3,1]", b"Change X Add [3,1]"),
         (b"drop drop [1]", b"Change drop Drop [1]"),
         (b"collapse X [2,2]", b"Change X Collapse [2,2]"),
+        (b"reduce X 100 7", b"Change X Reduce 100 7"),
         (b"undo X", b"Change X Undo"),
         (b"redo#\nundo", b"Change undo Redo"),
     ] {
@@ -396,11 +410,15 @@ fn parts_that_lack_or_are_too_many_make_no_command(rt: HostRuntime) -> Result<()
         b"X := handle Y [1]",
         b"X := relabel Y [1,2]",
         b"X := relabel Y [[1,2]] []",
+        b"options 1",
+        b"options X 1 1",
         b"betti X 1",
         b"closed",
         b"add X",
         b"drop X [1] [2]",
         b"collapse [1] X",
+        b"reduce X 1",
+        b"reduce X 1 2 3",
     ] {
         assert_eq!(rt; spelled(rt.alloc(), bytes)?.is_none(), true);
     }
@@ -491,6 +509,7 @@ fn conditions_have_their_names(rt: HostRuntime) -> Result<(), Fail> {
     assert_eq!(rt; Condition::LabelRange.name(), "label_range");
     assert_eq!(rt; Condition::Void.name(), "void");
     assert_eq!(rt; Condition::NotFace.name(), "not_face");
+    assert_eq!(rt; Condition::DimRange.name(), "dim_range");
     assert_eq!(rt; Condition::DimDiffers.name(), "dim_differs");
     assert_eq!(rt; Condition::NotFacet.name(), "not_facet");
     assert_eq!(rt; Condition::NotMap.name(), "not_map");
@@ -500,6 +519,7 @@ fn conditions_have_their_names(rt: HostRuntime) -> Result<(), Fail> {
     assert_eq!(rt; Condition::IsFace.name(), "is_face");
     assert_eq!(rt; Condition::Range.name(), "range");
     assert_eq!(rt; Condition::RankLimit.name(), "rank_limit");
+    assert_eq!(rt; Condition::Budget.name(), "budget");
     assert_eq!(rt; Condition::NoFuture.name(), "no_future");
     Ok(())
 }

@@ -12,6 +12,7 @@ pub enum Verb {
     Euler,
     Faces,
     Degree,
+    Options,
     Betti,
     Components,
     Closed,
@@ -20,11 +21,12 @@ pub enum Verb {
     Add,
     Drop,
     Collapse,
+    Reduce,
     Undo,
     Redo,
 }
 
-const VERBS: [Verb; 18] = [
+const VERBS: [Verb; 20] = [
     Verb::Show,
     Verb::Print,
     Verb::Fvec,
@@ -33,6 +35,7 @@ const VERBS: [Verb; 18] = [
     Verb::Euler,
     Verb::Faces,
     Verb::Degree,
+    Verb::Options,
     Verb::Betti,
     Verb::Components,
     Verb::Closed,
@@ -41,6 +44,7 @@ const VERBS: [Verb; 18] = [
     Verb::Add,
     Verb::Drop,
     Verb::Collapse,
+    Verb::Reduce,
     Verb::Undo,
     Verb::Redo,
 ];
@@ -59,6 +63,7 @@ impl Verb {
             Verb::Euler => b"euler",
             Verb::Faces => b"faces",
             Verb::Degree => b"degree",
+            Verb::Options => b"options",
             Verb::Betti => b"betti",
             Verb::Components => b"components",
             Verb::Closed => b"closed",
@@ -67,6 +72,7 @@ impl Verb {
             Verb::Add => b"add",
             Verb::Drop => b"drop",
             Verb::Collapse => b"collapse",
+            Verb::Reduce => b"reduce",
             Verb::Undo => b"undo",
             Verb::Redo => b"redo",
         }

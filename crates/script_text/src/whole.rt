@@ -80,6 +80,20 @@ pub fn three_numbers(bytes: &[u8]) -> Option<(u64, u64, u64)>
     Some((first, second, third))
 }
 
+/// A word and two numbers, and nothing behind them.
+pub fn name_numbers(bytes: &[u8]) -> Option<(Name, u64, u64)>
+    ensures some { IfSome result (λ p. tokens bytes.now ≡ Some (word p.0 ++ (number p.1 ++ number p.2))) }
+    ensures none { IsNone result → (x : List ℕ) (m n : ℕ) → tokens bytes.now ≡ Some (word x ++ (number m ++ number n)) → ⊥ }
+{
+    let Some((name, rest)) = read_word(bytes) else {
+        return None;
+    };
+    let Some((first, second)) = two_numbers(rest) else {
+        return None;
+    };
+    Some((name, first, second))
+}
+
 /// Two words, and nothing behind them.
 pub fn two_names(bytes: &[u8]) -> Option<(Name, Name)>
     ensures some { IfSome result (λ p. tokens bytes.now ≡ Some (word p.0 ++ word p.1)) }

@@ -1,0 +1,5 @@
+pub mod CourseLaws
+pub mod GoalLaws
+pub mod PickExists
+pub mod PickLaws
+pub mod WalkLaws

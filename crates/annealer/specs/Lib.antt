@@ -1,0 +1,4 @@
+pub mod Budget
+pub mod Course
+pub mod Laws
+pub mod Walk
