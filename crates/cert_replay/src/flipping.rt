@@ -1,0 +1,57 @@
+ghost use Rattle.std.specs.Prelude.{◌≡◌, ◌+◌, ◌≤◌, ◌++◌, IsTrue, IfOk, OnOk, length, map, not};
+ghost use Rattle.std.specs.List.{filter};
+ghost use Rattle.simplex.specs.Simplex.{is_within, union, without, len_limit};
+ghost use Rattle.facet_set.specs.Numbers.{is_pure};
+ghost use Rattle.facet_set.specs.Flips.{allowed, flip as flipped};
+
+use crate::allowing::are_simplices;
+use facet_set::Facets;
+use simplex::{Flip, Memory, Simplex};
+use std::alloc::Global;
+
+// The facets that do not contain the simplex.
+fn without_star(alloc: Global, facets: &[Simplex], a: &Simplex) -> Result<Vec<Simplex>, Memory>
+    ensures { IfOk result (λ rest. rest.items ≡ filter (λ s. not (is_within a.now s)) facets.now) }
+{
+    let rest = facets
+        .iter()
+        .copied()
+        .filter(|facet| !a.within(facet))
+        .collect(alloc)?;
+    Ok(rest)
+}
+
+// The labels of either, where these are at most 12.
+fn union(s: &Simplex, t: &Simplex) -> Simplex
+    requires { length s.now + length t.now ≤ len_limit }
+    ensures { result ≡ union s.now t.now }
+{
+    match s.union(t) {
+        Some(union) => union,
+        None => unreachable!(),
+    }
+}
+
+// Adds B with A minus one label, for each label of A.
+fn push_ball(list: &mut Vec<Simplex>, flip: &Flip) -> Result<(), Memory>
+    requires { length flip.now.a + length flip.now.b ≤ len_limit + 1 }
+    ensures { OnOk result (list.new.items
+        ≡ list.old.items ++ map (λ x. union flip.now.b (without flip.now.a x)) flip.now.a) }
+{
+    for label in flip.a.labels() {
+        list.push(union(&flip.b, &flip.a.without(*label)))?;
+    }
+    Ok(())
+}
+
+/// The complex after the flip: the facets that contain A go, and B with A minus one label comes, for each label of A (Pachner).
+pub fn flipped(alloc: Global, c: &Facets, flip: &Flip) -> Result<Facets, Memory>
+    requires { IsTrue (allowed c.now flip.now.a flip.now.b) }
+    ensures value { IfOk result (λ d. d ≡ flipped c.now flip.now.a flip.now.b) }
+    ensures pure { IfOk result (λ d. IsTrue (is_pure d)) }
+{
+    are_simplices(flip);
+    let mut list = without_star(alloc, c.as_slice(), &flip.a)?;
+    push_ball(&mut list, flip)?;
+    Facets::generated(alloc, list.as_slice())
+}

@@ -1,0 +1,16 @@
+//! Whether a certificate is valid: each flip of it is made again on the facets alone.
+#![tactic(auto)]
+
+mod allowing;
+mod flipping;
+mod links;
+mod maps;
+mod moving;
+mod relabelled;
+mod replay_fault;
+mod replaying;
+#[cfg(test)]
+mod tests;
+
+pub use replay_fault::ReplayFault;
+pub use replaying::replay;

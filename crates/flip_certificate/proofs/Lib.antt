@@ -1,0 +1,9 @@
+pub mod CutLaws
+pub mod EndsLaws
+pub mod GuessLaws
+pub mod GuessedLaws
+pub mod ReaderLaws
+pub mod ReadingLaws
+pub mod SpelledLaws
+pub mod ValidLaws
+pub mod WrittenLaws

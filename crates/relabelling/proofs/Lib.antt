@@ -1,0 +1,11 @@
+pub mod CarryLaws
+pub mod ColourLaws
+pub mod ExtendLaws
+pub mod ForcedLaws
+pub mod LeadLaws
+pub mod MapLaws
+pub mod MapsLaws
+pub mod RidgeLaws
+pub mod SeekLaws
+pub mod SetLaws
+pub mod WalkLaws

@@ -1,0 +1,55 @@
+-- A walk from facet to facet that gives images to labels.
+use Rattle.std.specs.Prelude.{◌≡◌, ℕ, ◌+◌, ◌⊎◌, Bool, true, false, List, length, nat_eq, Some, IsSome, IsTrue}
+use Rattle.std.specs.List.{list_all}
+use Rattle.std.specs.HashMap.{HashMap, get}
+use Rattle.std.specs.HashSet.{contains, hash_set_len}
+use Rattle.std.specs.Cmp.Lexicographic.{pointwise}
+use Rattle.simplex.specs.Members.{In}
+use Rattle.simplex.specs.Simplex.{is_label, is_simplex}
+use Rattle.facet_set.specs.Complex.{is_complex}
+use Rattle.facet_set.specs.Connection.{is_closed}
+use Rattle.facet_set.specs.Maps.{image_of}
+use Rattle.relabelling.specs.Bijections.{is_map_to}
+use Rattle.relabelling.specs.Ridges.{TellsEnds}
+use Rattle.relabelling.specs.declared.extending.Walk.{Walk}
+
+module _ {S : Type 0} where
+  -- each label of the simplex has an image
+  abbrev pub IsKnown : HashMap ℕ ℕ S → List ℕ → Type 0
+  IsKnown t s = (a : ℕ) → In a s → IsSome (get nat_eq t a)
+
+  -- the images are labels
+  abbrev pub AreLabels : HashMap ℕ ℕ S → Type 0
+  AreLabels t = (a b : ℕ) → get nat_eq t a ≡ Some b → IsTrue (is_label b)
+
+  -- the images are those under the map
+  abbrev pub Agrees : HashMap ℕ ℕ S → List (ℕ × ℕ) → Type 0
+  Agrees t m = (a b : ℕ) → get nat_eq t a ≡ Some b → image_of m a ≡ b
+
+  -- the images that more labels get: labels have the images that they had, and each bijection that carries c to d agrees with the new ones where it agrees with the old ones
+  pub record Extends (c d : List (List ℕ)) (t n : HashMap ℕ ℕ S) : Type 0 where
+    pub kept : (a b : ℕ) → get nat_eq t a ≡ Some b → get nat_eq n a ≡ Some b
+    pub labels : AreLabels t → AreLabels n
+    pub agrees : (m : List (ℕ × ℕ)) → IsTrue (is_map_to c d m) → Agrees t m → Agrees n m
+
+-- c is closed, and the tables tell what lies across from the ridges of c and of d
+pub record AreWays {S : Type 0} (c d : List (List ℕ)) (c_ends d_ends : HashMap (List ℕ) (ℕ × ℕ) S) : Type 0 where
+  pub simplices : IsTrue (list_all is_simplex c)
+  pub complex : IsTrue (is_complex c)
+  pub closed : IsTrue (is_closed c)
+  pub d_simplices : IsTrue (list_all is_simplex d)
+  pub c_told : TellsEnds c_ends c
+  pub d_told : TellsEnds d_ends d
+
+-- whether the facet was not reached yet
+abbrev pub is_unseen : Walk → List ℕ → Bool
+is_unseen w t = contains (pointwise nat_eq) w.unseen t
+
+-- what a walk keeps as it goes on, and what it adds
+pub record GoesOn (c d : List (List ℕ)) (w n : Walk) : Type 0 where
+  pub images : Extends c d w.images n.images
+  pub seen : (t : List ℕ) → is_unseen w t ≡ false → is_unseen n t ≡ false
+  pub waiting : (t : List ℕ) → In t w.waiting.items → In t n.waiting.items
+  pub reached : (t : List ℕ) → is_unseen w t ≡ true → is_unseen n t ≡ false → IsKnown n.images t × In t n.waiting.items
+  pub added : (t : List ℕ) → In t n.waiting.items → In t w.waiting.items ⊎ (In t c × (is_unseen n t ≡ false))
+  pub work : length n.waiting.items + hash_set_len n.unseen ≡ length w.waiting.items + hash_set_len w.unseen

@@ -1,0 +1,15 @@
+//! Bijections of vertices that carry one complex to another.
+#![tactic(auto)]
+
+mod colours;
+mod extending;
+pub mod laws;
+mod least;
+mod relabelled;
+mod ridges;
+mod search;
+#[cfg(test)]
+mod tests;
+
+pub use extending::extend_map;
+pub use least::first_map;

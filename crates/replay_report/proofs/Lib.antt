@@ -1,0 +1,4 @@
+pub mod CountingLaws
+pub mod CuttingLaws
+pub mod JudgingLaws
+pub mod TranscriptLaws

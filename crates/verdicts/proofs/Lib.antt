@@ -1,0 +1,7 @@
+pub mod EquivalentLaws
+pub mod ManifoldLaws
+pub mod PickedFlips
+pub mod ReadyLaws
+pub mod SphereLaws
+pub mod VertexLinks
+pub mod WayLaws

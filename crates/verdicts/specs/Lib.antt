@@ -1,0 +1,5 @@
+pub mod Laws
+pub mod Ready
+pub mod Sound
+pub mod Tests
+pub mod Verdicts
