@@ -1,6 +1,5 @@
--- The limit on the numbers of faces, and how Betti numbers are printed.
-use Rattle.std.proofs.Common.{◌≡◌, ℕ, zero, suc, ◌+◌, ◌⊎◌, inl, inr, Bool, true, false, ◌&&◌, cond, leb, pos, List, [], ◌∷◌, map, Option, Some, None, refl, sym, ap, ◌∙◌}
-use Rattle.std.specs.Fmt.{decimal, signed_decimal}
+-- The limit on the numbers of faces.
+use Rattle.std.proofs.Common.{◌≡◌, ℕ, zero, suc, ◌+◌, ◌⊎◌, inl, inr, Bool, true, false, ◌&&◌, cond, leb, [], ◌∷◌, map, Option, Some, None, refl, sym, ap, ◌∙◌}
 use Rattle.std.specs.List.{list_all, range_with_len}
 use Rattle.std.specs.Option.{is_some}
 use Rattle.std.specs.Prelude.{nat_le, not}
@@ -44,8 +43,3 @@ pub few_stops : (c : Complex) (e : BettiFault) → (e ≡ fault.Memory) ⊎ (lim
 few_stops c (fault.RankLimit k) (inl h) = cc
 few_stops c (fault.RankLimit k) (inr h) = few_fails c (fault.RankLimit k) h
 few_stops c fault.Memory h = tt
-
--- numbers are printed as integers
-pub number_texts : (ns : List ℕ) → map decimal ns ≡ map signed_decimal (map pos ns)
-number_texts [] = refl
-number_texts (n ∷ ns) = ap (λ ts. decimal n ∷ ts) (number_texts ns)

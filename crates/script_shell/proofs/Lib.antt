@@ -2,9 +2,13 @@ pub mod Betti
 pub mod Constructions
 pub mod Cutting
 pub mod FaceCounts
+pub mod FormLaws
 pub mod Listing
 pub mod Makers
 pub mod Options
 pub mod Refusals
 pub mod Renaming
+pub mod Replaying
+pub mod ReplyLines
 pub mod Streaming
+pub mod Verdicts

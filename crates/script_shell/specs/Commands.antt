@@ -1,6 +1,5 @@
 -- Each command: its conditions in order, the state after it and the reply.
-use Rattle.std.specs.Prelude.{ℕ, ◌+◌, ℤ, pos, Bool, ◌||◌, ◌&&◌, ◌==◌, slice_index_or, not, List, [], ◌∷◌, ◌++◌, map, length, Option, Some, None, codes, decimal, nat_lt, nat_le, if◌then◌else◌}
-use Rattle.std.specs.Fmt.{signed_decimal}
+use Rattle.std.specs.Prelude.{ℕ, ◌+◌, pos, Bool, ◌||◌, ◌&&◌, ◌==◌, slice_index_or, not, List, [], ◌∷◌, ◌++◌, map, length, Option, Some, None, codes, nat_lt, nat_le}
 use Rattle.std.specs.List.{flat_map, list_all, range_with_len}
 use Rattle.simplex.specs.FirstFailing.{first_failing}
 use Rattle.simplex.specs.Simplex.{is_label}
@@ -22,7 +21,7 @@ use Rattle.constructions.specs.Cyclic.{cyclic, cyclic_limits}
 use Rattle.constructions.specs.Gluing.{handle, handle_tests, sum_of, sum_tests}
 use Rattle.constructions.specs.Joins.{cone, fit_tests, join, point, suspension, two_points}
 use Rattle.constructions.specs.Relabelling.{is_renaming}
-use Rattle.constructions.specs.Spheres.{bdcross, bdsimplex, sphere_tests}
+use Rattle.constructions.specs.Spheres.{bdcross, bdsimplex, sphere_tests as boundary_tests}
 use Rattle.constructions.specs.Stacked.{stacked, stacked_limits}
 use Rattle.constructions.specs.declared.make_fault.MakeFault.{MakeFault}
 use Rattle.constructions.specs.declared.make_fault.MakeFault.TheVariants as make
@@ -33,8 +32,6 @@ use Rattle.face_vectors.specs.Vectors.{alternating, g_vector_of, h_vector_of}
 use Rattle.flip_rules.specs.Tests.{flip_tests}
 use Rattle.flip_rules.specs.declared.flip_fault.FlipFault.{FlipFault}
 use Rattle.flip_rules.specs.declared.flip_fault.FlipFault.TheVariants as fault
-use Rattle.script_text.specs.Condition.{condition_name}
-use Rattle.script_text.specs.Printing.{bracketed_text, facets_text, integers_text, simplex_text}
 use Rattle.script_text.specs.declared.command.Command.{Command}
 use Rattle.script_text.specs.declared.command.Command.TheVariants as command
 use Rattle.script_text.specs.declared.command.Maker.{Maker}
@@ -45,6 +42,13 @@ use Rattle.script_text.specs.declared.command.Edit.{Edit}
 use Rattle.script_text.specs.declared.command.Edit.TheVariants as edit
 use Rattle.script_text.specs.declared.condition.Condition.{Condition}
 use Rattle.script_text.specs.declared.condition.Condition.TheVariants as condition
+use Rattle.reply_texts.specs.Replies.{faces_reply, facets_reply, flips_reply, number_reply, numbers_reply, ok_reply, reduced_reply, refusal_text, undecided_at_reply, undecided_reply, yes_or_no, yes_reply}
+use Rattle.verdicts.specs.Tests.{equivalent_tests, manifold_tests, sphere_tests}
+use Rattle.verdicts.specs.Verdicts.{equivalent_of, manifold_of, sphere_of}
+use Rattle.verdicts.specs.declared.verdict.Verdict.{Verdict}
+use Rattle.verdicts.specs.declared.verdict.Verdict.TheVariants.{Yes, Undecided, UndecidedAt}
+use Rattle.verdicts.specs.declared.verdict_fault.VerdictFault.{VerdictFault}
+use Rattle.verdicts.specs.declared.verdict_fault.VerdictFault.TheVariants as unfit
 use Rattle.shell_names.specs.State.{State, Complex, holds, entry, present, assign, put_entry, edited, undone, redone, total_weight, journal}
 use Rattle.script_shell.specs.declared.limits.Limits.{Limits}
 
@@ -57,40 +61,6 @@ pub record Meaning : Type 0 where
   pub tests : List Test
   pub after : State
   pub reply : List ℕ
-
--- the text with its line feed
-abbrev pub line : List ℕ → List ℕ
-line text = text ++ 10 ∷ []
-
--- the reply that shows the facets of a complex
-abbrev pub facets_reply : Complex → List ℕ
-facets_reply c = line (codes "facets " ++ facets_text c)
-
--- the reply of an assignment or a change: the number of facets that the name has after it
-abbrev pub ok_reply : Complex → List ℕ
-ok_reply c = line (codes "ok " ++ decimal (length c))
-
--- the replies that show a number, and a list of numbers, behind a word and its space
-abbrev pub number_reply : List ℕ → ℤ → List ℕ
-number_reply word z = line (word ++ signed_decimal z)
-
-abbrev pub numbers_reply : List ℕ → List ℤ → List ℕ
-numbers_reply word zs = line (word ++ integers_text zs)
-
--- the reply that says yes or no behind a word and its space
-abbrev pub yes_or_no : List ℕ → Bool → List ℕ
-yes_or_no word b = line (word ++ (if b then codes "yes" else codes "no"))
-
--- the texts of a flip and of a list of flips
-abbrev pub flip_text : Flip → List ℕ
-flip_text m = bracketed_text (simplex_text m.a ∷ simplex_text m.b ∷ [])
-
-abbrev pub flips_text : List Flip → List ℕ
-flips_text ms = bracketed_text (map flip_text ms)
-
--- the reply of a walk: the number of flips to its goal, and the number of facets of the goal
-abbrev pub reduced_reply : List Flip → Complex → List ℕ
-reduced_reply ms c = line (codes "reduced " ++ decimal (length ms) ++ 32 ∷ decimal (length c))
 
 -- ---- conditions of several commands
 
@@ -174,8 +144,8 @@ making s (maker.Star x face) = record { names = x ∷ []; lists = face ∷ []; o
 making s (maker.Deletion x face) = record { names = x ∷ []; lists = face ∷ []; own = face_test (present s x) face ∷ []; complex = deletion (present s x) (set face) }
 making s (maker.Boundary x) = record { names = x ∷ []; lists = []; own = pure_tests (present s x ∷ []); complex = boundary (present s x) }
 making s (maker.Skeleton x k) = record { names = x ∷ []; lists = []; own = []; complex = skeleton (present s x) k }
-making s (maker.BdSimplex d) = record { names = []; lists = []; own = make_tests (sphere_tests d); complex = bdsimplex d }
-making s (maker.BdCross d) = record { names = []; lists = []; own = make_tests (sphere_tests d); complex = bdcross d }
+making s (maker.BdSimplex d) = record { names = []; lists = []; own = make_tests (boundary_tests d); complex = bdsimplex d }
+making s (maker.BdCross d) = record { names = []; lists = []; own = make_tests (boundary_tests d); complex = bdcross d }
 making s (maker.Cyclic k n) = record { names = []; lists = []; own = make_tests (cyclic_limits k n); complex = cyclic k n }
 making s (maker.Stacked d n seed) = record { names = []; lists = []; own = make_tests (stacked_limits d n); complex = stacked d n seed }
 making s (maker.Join x y) = record { names = x ∷ y ∷ []; lists = []; own = make_tests (fit_tests (present s x) (present s y)); complex = join (present s x) (present s y) }
@@ -226,7 +196,7 @@ asking c question.Fvec = record { lists = []; own = []; reply = numbers_reply (c
 asking c question.Hvec = record { lists = []; own = void_test c ∷ []; reply = numbers_reply (codes "hvec ") (h_vector_of (f_vector c)) }
 asking c question.Gvec = record { lists = []; own = void_test c ∷ []; reply = numbers_reply (codes "gvec ") (g_vector_of (f_vector c)) }
 asking c question.Euler = record { lists = []; own = []; reply = number_reply (codes "euler ") (alternating (f_vector c)) }
-asking c (question.Faces k) = record { lists = []; own = []; reply = line (codes "faces " ++ facets_text (faces_of_size c (k + 1))) }
+asking c (question.Faces k) = record { lists = []; own = []; reply = faces_reply (faces_of_size c (k + 1)) }
 asking c (question.Degree face) =
     record {
       lists = face ∷ [];
@@ -248,7 +218,7 @@ asking c (question.OptionsOf class) =
     record {
       lists = [];
       own = pure_tests (c ∷ []) ++ (nat_lt class (size c), condition.Range) ∷ [];
-      reply = line (codes "options " ++ flips_text (options c class));
+      reply = flips_reply (options c class);
     }
 
 -- the conditions of a question, without that on the name
@@ -388,6 +358,41 @@ changing limits s x (edit.Reduce budget seed) = change limits s x (reducing (pre
 changing limits s x edit.Undo = undo limits s x
 changing limits s x edit.Redo = redo limits s x
 
+-- ---- verdicts
+
+-- the condition that a verdict with this fault fails (want of memory stands beside no test)
+abbrev pub verdict_condition : VerdictFault → Condition
+verdict_condition unfit.Void = condition.Void
+verdict_condition unfit.NotPure = condition.NotPure
+verdict_condition unfit.DimRange = condition.DimRange
+verdict_condition unfit.DimDiffers = condition.DimDiffers
+verdict_condition unfit.Budget = condition.Budget
+verdict_condition unfit.Memory = condition.SizeLimit
+
+-- the conditions of a verdict
+abbrev pub verdict_tests : List (Bool × VerdictFault) → List Test
+verdict_tests ts = map (λ t. (t.0, verdict_condition t.1)) ts
+
+-- the reply that gives a verdict
+abbrev pub verdict_reply : Verdict → List ℕ
+verdict_reply (Yes k) = yes_reply k
+verdict_reply (Undecided spent) = undecided_reply spent
+verdict_reply (UndecidedAt vertex spent) = undecided_at_reply spent vertex
+
+-- a verdict on the complexes of names, which changes nothing
+abbrev pub verdict : State → List (List ℕ) → List (Bool × VerdictFault) → Verdict → Meaning
+verdict s names ts v = record { tests = map (name_test s) names ++ verdict_tests ts; after = s; reply = verdict_reply v }
+
+abbrev pub sphere : State → List ℕ → ℕ → ℕ → Meaning
+sphere s x budget seed = verdict s (x ∷ []) (sphere_tests (present s x) budget) (sphere_of (present s x) budget seed)
+
+abbrev pub equivalent : State → List ℕ → List ℕ → ℕ → ℕ → Meaning
+equivalent s x y budget seed =
+    verdict s (x ∷ y ∷ []) (equivalent_tests (present s x) (present s y) budget) (equivalent_of (present s x) (present s y) budget seed)
+
+abbrev pub manifold : State → List ℕ → ℕ → ℕ → Meaning
+manifold s x budget seed = verdict s (x ∷ []) (manifold_tests (present s x) budget) (manifold_of (present s x) budget seed)
+
 -- ---- all commands
 
 abbrev pub meaning : Limits → State → Command → Meaning
@@ -395,6 +400,9 @@ meaning limits s (command.Show lists) = record { tests = flat_map list_tests lis
 meaning limits s (command.Make x m) = assignment limits s x (making s m)
 meaning limits s (command.Ask x q) = answering s x (asking (present s x) q)
 meaning limits s (command.Change x e) = changing limits s x e
+meaning limits s (command.Sphere x budget seed) = sphere s x budget seed
+meaning limits s (command.Equivalent x y budget seed) = equivalent s x y budget seed
+meaning limits s (command.Manifold x budget seed) = manifold s x budget seed
 
 -- the condition that refuses the command: the first that fails
 abbrev pub failed : Limits → State → Command → Option Condition
@@ -407,10 +415,6 @@ state_after limits s k = by (failed limits s k)
     by : Option Condition → State
     by None = (meaning limits s k).after
     by (Some c) = s
-
--- the reply to a command that a condition refuses
-abbrev pub refusal_text : Condition → List ℕ
-refusal_text c = line (codes "refused " ++ condition_name c)
 
 -- the reply to the command
 abbrev pub reply_to : Limits → State → Command → List ℕ

@@ -1,9 +1,10 @@
 -- The edits but undo and redo as one: what they ask of the present complex, and what they make of it.
 use Rattle.std.specs.Prelude.{Bool, true, false, []}
+use Rattle.reply_texts.specs.Replies.{ok_reply}
 use Rattle.script_text.specs.declared.command.Edit.{Edit}
 use Rattle.script_text.specs.declared.command.Edit.TheVariants as edit
 use Rattle.shell_names.specs.State.{Complex}
-use Rattle.script_shell.specs.Commands.{Editing, adding, collapsing, dropping, flipping, ok_reply, reducing}
+use Rattle.script_shell.specs.Commands.{Editing, adding, collapsing, dropping, flipping, reducing}
 
 -- whether the edit makes the complex anew, as all do but undo and redo
 abbrev pub makes_anew : Edit → Bool

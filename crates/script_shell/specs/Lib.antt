@@ -1,9 +1,12 @@
+pub mod Bench
 pub mod Commands
 pub mod Edits
 pub mod Exits
+pub mod Laws
 pub mod Limits
 pub mod Output
 pub mod Relabelling
+pub mod Replays
 pub mod Reply
 pub mod Rooms
 pub mod Saturated

@@ -8,6 +8,8 @@ use Rattle.local_parts.specs.declared.part_fault.PartFault.{PartFault}
 use Rattle.local_parts.specs.declared.part_fault.PartFault.TheVariants as fault
 use Rattle.script_text.specs.declared.condition.Condition.{Condition}
 use Rattle.script_text.specs.declared.condition.Condition.TheVariants as condition
+use Rattle.verdicts.specs.declared.verdict_fault.VerdictFault.{VerdictFault}
+use Rattle.verdicts.specs.declared.verdict_fault.VerdictFault.TheVariants as unfit
 use Rattle.script_shell.specs.declared.stop.Stop.{Stop}
 use Rattle.script_shell.specs.declared.stop.Stop.TheVariants.{Refused, Memory}
 
@@ -40,3 +42,12 @@ make_stop make.Memory = Memory
 abbrev pub betti_stop : BettiFault → Stop
 betti_stop (betti.RankLimit k) = Refused condition.RankLimit
 betti_stop betti.Memory = Memory
+
+-- the stop at a verdict that is not given
+abbrev pub verdict_stop : VerdictFault → Stop
+verdict_stop unfit.Void = Refused condition.Void
+verdict_stop unfit.NotPure = Refused condition.NotPure
+verdict_stop unfit.DimRange = Refused condition.DimRange
+verdict_stop unfit.DimDiffers = Refused condition.DimDiffers
+verdict_stop unfit.Budget = Refused condition.Budget
+verdict_stop unfit.Memory = Memory

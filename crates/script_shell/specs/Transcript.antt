@@ -1,9 +1,10 @@
 -- Whole runs: a script is cut into pieces, and each piece that is not blank has a number and a reply.
 use Rattle.std.specs.Prelude.{ℕ, ◌+◌, Bool, true, false, not, ◌&&◌, ◌||◌, ◌==◌, List, [], ◌∷◌, ◌++◌, Option, Some, None, is_some, if◌then◌else◌, codes, decimal}
+use Rattle.reply_texts.specs.Replies.{line}
 use Rattle.script_text.specs.Reading.{command_of}
 use Rattle.script_text.specs.Tokens.{is_blank, is_in_comment}
 use Rattle.script_text.specs.declared.command.Command.{Command}
-use Rattle.script_shell.specs.Commands.{line, failed, state_after, reply_to}
+use Rattle.script_shell.specs.Commands.{failed, state_after, reply_to}
 use Rattle.script_shell.specs.Limits.{standard}
 use Rattle.shell_names.specs.State.{State}
 

@@ -12,14 +12,14 @@ use crate::counting::counts;
 use crate::lists::simplex_first;
 use crate::parts::not_void;
 use crate::purity::pure;
-use crate::replies::{
-    faces_reply, facets_reply, flips_reply, number_reply, numbers_reply, row_reply, yes_or_no,
-};
 use crate::stop::Stop;
 use face_vectors::{euler, f, g, h};
 use facet_set::Facets;
 use flip_rules::options;
 use local_parts::{components, is_closed, is_strong};
+use reply_texts::{
+    faces_reply, facets_reply, flips_reply, number_reply, numbers_reply, row_reply, yes_or_no,
+};
 use script_text::{Condition, Name, Question};
 use shell_names::{Names, WEIGHT_LIMIT};
 use simplex::{Memory, Numbers, Text};
@@ -82,7 +82,7 @@ fn fvec(alloc: Global, complex: &Facets) -> Result<Text, Memory>
     ensures { IfOk result (λ text. text ≡ (asking complex.now Question.Fvec).reply) }
 {
     let counts = counts(alloc, complex)?;
-    row_reply(alloc, b"fvec ", &f(&counts))
+    row_reply(alloc, b"fvec ", f(&counts).as_slice())
 }
 
 fn hvec(alloc: Global, complex: &Facets) -> Result<Text, Memory>
@@ -90,7 +90,7 @@ fn hvec(alloc: Global, complex: &Facets) -> Result<Text, Memory>
     ensures { IfOk result (λ text. text ≡ (asking complex.now Question.Hvec).reply) }
 {
     let counts = counts(alloc, complex)?;
-    row_reply(alloc, b"hvec ", &h(&counts))
+    row_reply(alloc, b"hvec ", h(&counts).as_slice())
 }
 
 fn gvec(alloc: Global, complex: &Facets) -> Result<Text, Memory>
@@ -98,7 +98,7 @@ fn gvec(alloc: Global, complex: &Facets) -> Result<Text, Memory>
     ensures { IfOk result (λ text. text ≡ (asking complex.now Question.Gvec).reply) }
 {
     let counts = counts(alloc, complex)?;
-    row_reply(alloc, b"gvec ", &g(&counts))
+    row_reply(alloc, b"gvec ", g(&counts).as_slice())
 }
 
 // The Euler characteristic.

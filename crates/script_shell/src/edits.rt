@@ -1,7 +1,8 @@
 // What an edit comes to, where no condition before those on the state after it refuses the edit.
 ghost use Rattle.std.specs.Prelude.{◌≡◌, None, IfOk, OnOk, IfErr, IsTrue};
 ghost use Rattle.simplex.specs.FirstFailing.{first_failing};
-ghost use Rattle.script_shell.specs.Commands.{adding, collapsing, dropping, editing_tests, flipping, ok_reply};
+ghost use Rattle.reply_texts.specs.Replies.{ok_reply};
+ghost use Rattle.script_shell.specs.Commands.{adding, collapsing, dropping, editing_tests, flipping};
 ghost use Rattle.script_shell.specs.Edits.{editing, makes_anew};
 ghost use Rattle.script_shell.specs.Stops.{StopsAt};
 
@@ -9,11 +10,11 @@ use crate::edited::Edited;
 use crate::lists::{simplex_first, simplices_first};
 use crate::parts::not_void;
 use crate::reducing::reduced;
-use crate::replies::ok_reply;
 use crate::stop::Stop;
 use collapse_moves::{add_facet, check_free, drop_facet};
 use facet_set::Facets;
 use flip_rules::{apply, check};
+use reply_texts::ok_reply;
 use script_text::{Condition, Edit};
 use simplex::{Flip, Memory, Numbers};
 use std::alloc::Global;

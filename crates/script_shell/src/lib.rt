@@ -2,20 +2,22 @@
 #![tactic(auto)]
 
 mod asking;
+mod bench;
 mod changing;
 mod constructing;
 mod counting;
+mod deciding;
 mod edited;
 mod edits;
 mod exit;
+mod label_maps;
+mod laws;
 mod limits;
 mod lists;
 mod making;
 mod parts;
 mod purity;
 mod reducing;
-mod relabelling;
-mod replies;
 mod reply;
 mod run;
 mod shell;
@@ -27,6 +29,7 @@ mod transcript;
 mod words;
 
 pub use exit::Exit;
+pub use laws::sound_transcripts_replay;
 pub use limits::Limits;
 pub use reply::Reply;
 pub use run::{run_program, run_surely};

@@ -1,21 +1,22 @@
 ghost use Rattle.std.specs.Prelude.{◌≡◌, false, [], ◌∷◌, ◌++◌, map, None, IfOk, OnOk, IfErr, OnErr, IsTrue};
 ghost use Rattle.simplex.specs.FirstFailing.{first_failing};
+ghost use Rattle.reply_texts.specs.Replies.{ok_reply};
 ghost use Rattle.shell_names.specs.State.{assign, holds, present};
-ghost use Rattle.script_shell.specs.Commands.{ok_reply, making, making_tests, assignment, name_test, weight_test, room_test};
+ghost use Rattle.script_shell.specs.Commands.{making, making_tests, assignment, name_test, weight_test, room_test};
 ghost use Rattle.script_shell.specs.Limits.{IsWithinStandard};
 ghost use Rattle.script_shell.specs.Rooms.{fits_test, making_own, room_beside, takes_room};
 ghost use Rattle.script_shell.specs.Stops.{StopsAt};
 
 use crate::Limits;
 use crate::constructing::{constructed, handle, sum};
+use crate::label_maps::relabel;
 use crate::lists::generated;
 use crate::parts::{boundary, deletion, link, star};
-use crate::relabelling::relabel;
-use crate::replies::ok_reply;
 use crate::stop::Stop;
 use constructions::{bdcross, bdsimplex, cone, cyclic, join, stacked, suspension};
 use facet_set::Facets;
 use local_parts::skeleton;
+use reply_texts::ok_reply;
 use script_text::{Condition, Maker, Name};
 use shell_names::Names;
 use simplex::Text;

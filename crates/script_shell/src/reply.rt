@@ -1,6 +1,7 @@
 ghost use Rattle.std.specs.Prelude.{◌≡◌, None, Some, IfOk};
-ghost use Rattle.script_shell.specs.Commands.{refusal_text};
+ghost use Rattle.reply_texts.specs.Replies.{refusal_text};
 
+use reply_texts::refusal_reply;
 use script_text::Condition;
 use simplex::{Memory, Text};
 use std::alloc::Global;
@@ -50,10 +51,7 @@ impl Reply {
     pub(crate) fn refused(alloc: Global, condition: Condition) -> Result<Reply, Memory>
         ensures { IfOk result (λ r. r ≡ record { text = refusal_text condition; refusal = Some condition }) }
     {
-        let mut text = Text::new(alloc);
-        text.extend(b"refused ")?;
-        text.extend(condition.name().as_bytes())?;
-        text.push(b'\n')?;
+        let text = refusal_reply(alloc, condition)?;
         Ok(Reply {
             text,
             refusal: Some(condition),

@@ -1,22 +1,28 @@
-ghost use Rattle.std.specs.Prelude.{◌≡◌, ◌≤◌, ◌<◌, ◌+◌, ◌++◌, ◌↔◌, ℕ, List, [], ◌∷◌, false, true, length, map, IfSome};
+ghost use Rattle.std.specs.Prelude.{◌≡◌, ◌≤◌, ◌<◌, ◌+◌, ◌++◌, ◌↔◌, ℕ, List, [], ◌∷◌, false, true, length, map, IfOk, OnOk, IfSome};
 ghost use Rattle.std.specs.String.{string_bytes};
 ghost use Rattle.run_ends.specs.Counts.{Rose};
 ghost use Rattle.run_ends.specs.Ends.{AtEnd, Grows};
 ghost use Rattle.script_shell.specs.Exits.{IsOneOf};
-ghost use Rattle.script_shell.specs.Output.{has_form, reads_input, output, refusing, usage_text};
+ghost use Rattle.replay_report.specs.Report.{replay_text, refuses_part};
+ghost use Rattle.script_shell.specs.Bench.{bench_text};
+ghost use Rattle.script_shell.specs.Output.{form_output, form_refuses, has_form, is_form, reads_input, output, refusing, usage_text};
+ghost use Rattle.script_shell.specs.Replays.{FormReplays, OutputReplays};
 ghost use Rattle.script_shell.specs.Streams.{GrowsByFront, Gave, input_limit};
-ghost use Rattle.script_shell.specs.Transcript.{transcript, is_refusing};
 
+use crate::bench::bench;
 use crate::exit::Exit;
 use crate::stream::{ReadEnd, read_all, send};
-use crate::transcript::transcript;
+use crate::transcript::{Answers, transcript};
 use crate::words::{Form, form_of};
+use replay_report::replay_all;
 use run_ends::{Sink, SinkFault, Source, SureSink, SureSource};
+use simplex::Memory;
 use std::alloc::Global;
 
 /// Does all that the program does, by the words after its name. `run` writes the transcript of the
-/// input, which has at most 16,777,216 bytes; for words of no form the usage line is written.
-/// The words and the limit are own.
+/// input, and `replay` the report on the certificates in it; the input has at most 16,777,216 bytes.
+/// `bench D N SEED` reads no input, and writes how a run of its own goes. For words of no form the
+/// usage line is written. The words and the limits are own.
 pub fn run_program<S: Source, K: Sink>(
     alloc: Global,
     words: &[String],
@@ -25,7 +31,8 @@ pub fn run_program<S: Source, K: Sink>(
 ) -> Exit
     requires unfinished { K.finished sink.old ≡ false }
 
-    // At Done and Refused the output of all that was left in the source was written, and the source is at its end.
+    // At Done and Refused the output of all that was left in the source was written, and the source is at its end where the words
+    // have it read.
     ensures done { result ≡ Exit.Done → IfSome (S.left source.old) (λ bytes.
         Grows (K.written sink.old) (K.written sink.new) (output (map string_bytes words.now) bytes)) }
     ensures done_refuses_nothing { result ≡ Exit.Done → IfSome (S.left source.old) (λ bytes.
@@ -34,7 +41,10 @@ pub fn run_program<S: Source, K: Sink>(
         Grows (K.written sink.old) (K.written sink.new) (output (map string_bytes words.now) bytes)) }
     ensures refused_refuses { result ≡ Exit.Refused → IfSome (S.left source.old) (λ bytes.
         refusing (map string_bytes words.now) bytes ≡ true) }
-    ensures at_end { IsOneOf result (Exit.Done ∷ Exit.Refused ∷ []) → AtEnd (S.left source.new) }
+    ensures replays { IsOneOf result (Exit.Done ∷ Exit.Refused ∷ []) → IfSome (S.left source.old) (λ bytes.
+        OutputReplays (map string_bytes words.now) bytes) }
+    ensures at_end { reads_input (map string_bytes words.now) ≡ true
+        → IsOneOf result (Exit.Done ∷ Exit.Refused ∷ []) → AtEnd (S.left source.new) }
 
     // The sink is finished at Done, Refused and Usage, and at no other end.
     ensures finished { IsOneOf result (Exit.Done ∷ Exit.Refused ∷ Exit.Usage ∷ [])
@@ -78,13 +88,15 @@ pub fn run_program<S: Source, K: Sink>(
     ensures usage_complete { has_form (map string_bytes words.now) ≡ false
         → ¬ Rose (K.faults sink.old) (K.faults sink.new) → IsOneOf result (Exit.Usage ∷ Exit.Memory ∷ []) }
 {
-    match form_of(words) {
-        Form::Run => match read_all(alloc, source) {
-            Ok(bytes) => run_script(alloc, &bytes, sink),
+    let form = form_of(words);
+    match form {
+        Form::Run | Form::Replay => match read_all(alloc, source) {
+            Ok(bytes) => write_output(alloc, form, &bytes, sink),
             Err(ReadEnd::Failed) => Exit::ReadFault,
             Err(ReadEnd::TooLong) => Exit::TooLong,
             Err(ReadEnd::Memory) => Exit::Memory,
         },
+        Form::Bench { .. } => write_output(alloc, form, &[], sink),
         Form::NoForm => write_usage(sink),
     }
 }
@@ -107,22 +119,24 @@ pub fn run_surely(
     run_program(alloc, words, source, sink)
 }
 
-// Writes the transcript of the bytes.
-fn run_script<K: Sink>(alloc: Global, bytes: &[u8], sink: &mut K) -> Exit
-    requires { K.finished sink.old ≡ false }
+// Writes the output of words of a form.
+fn write_output<K: Sink>(alloc: Global, form: Form, bytes: &[u8], sink: &mut K) -> Exit
+    requires unfinished { K.finished sink.old ≡ false }
+    requires form { is_form form ≡ true }
     ensures kind { IsOneOf result (Exit.Done ∷ Exit.Refused ∷ Exit.Memory ∷ Exit.WriteFault ∷ []) }
-    ensures written { IsOneOf result (Exit.Done ∷ Exit.Refused ∷ []) → Grows (K.written sink.old) (K.written sink.new) (transcript bytes.now) }
-    ensures done { result ≡ Exit.Done → is_refusing bytes.now ≡ false }
-    ensures refused { result ≡ Exit.Refused → is_refusing bytes.now ≡ true }
+    ensures written { IsOneOf result (Exit.Done ∷ Exit.Refused ∷ []) → Grows (K.written sink.old) (K.written sink.new) (form_output form bytes.now) }
+    ensures done { result ≡ Exit.Done → form_refuses form bytes.now ≡ false }
+    ensures refused { result ≡ Exit.Refused → form_refuses form bytes.now ≡ true }
+    ensures replays { IsOneOf result (Exit.Done ∷ Exit.Refused ∷ []) → FormReplays form bytes.now }
     ensures finished { IsOneOf result (Exit.Done ∷ Exit.Refused ∷ Exit.Usage ∷ [])
         → K.finished sink.new ≡ true }
     ensures unfinished { IsOneOf result (Exit.Memory ∷ Exit.ReadFault ∷ Exit.WriteFault ∷ Exit.TooLong ∷ [])
         → K.finished sink.new ≡ false }
-    ensures front { GrowsByFront (K.written sink.old) (K.written sink.new) (transcript bytes.now) }
+    ensures front { GrowsByFront (K.written sink.old) (K.written sink.new) (form_output form bytes.now) }
     ensures write_fault { result ≡ Exit.WriteFault → Rose (K.faults sink.old) (K.faults sink.new) }
     ensures complete { ¬ Rose (K.faults sink.old) (K.faults sink.new) → IsOneOf result (Exit.Done ∷ Exit.Refused ∷ Exit.Memory ∷ []) }
 {
-    let Ok(answers) = transcript(alloc, bytes) else {
+    let Ok(answers) = answers_to(alloc, form, bytes) else {
         return Exit::Memory;
     };
     match send(sink, answers.text.as_slice()) {
@@ -131,6 +145,44 @@ fn run_script<K: Sink>(alloc: Global, bytes: &[u8], sink: &mut K) -> Exit
         Err(SinkFault::Failed) => Exit::WriteFault,
         Err(SinkFault::Memory) => Exit::Memory,
     }
+}
+
+// The output of words of a form.
+fn answers_to(alloc: Global, form: Form, bytes: &[u8]) -> Result<Answers, Memory>
+    requires { is_form form ≡ true }
+    ensures text { IfOk result (λ a. a.text ≡ form_output form bytes.now) }
+    ensures refusing { IfOk result (λ a. a.refusing ≡ form_refuses form bytes.now) }
+    ensures replays { OnOk result (FormReplays form bytes.now) }
+{
+    match form {
+        Form::Run => transcript(alloc, bytes),
+        Form::Replay => replayed(alloc, bytes),
+        Form::Bench { d, n, seed } => benched(alloc, d, n, seed),
+        Form::NoForm => unreachable!(),
+    }
+}
+
+// The report on the certificates in the bytes, and whether one of them is refused.
+fn replayed(alloc: Global, bytes: &[u8]) -> Result<Answers, Memory>
+    ensures text { IfOk result (λ a. a.text ≡ replay_text bytes.now) }
+    ensures refusing { IfOk result (λ a. a.refusing ≡ refuses_part bytes.now) }
+{
+    let report = replay_all(alloc, bytes)?;
+    Ok(Answers {
+        refusing: report.accepted < report.parts,
+        text: report.text,
+    })
+}
+
+// What a bench writes, in which nothing is refused.
+fn benched(alloc: Global, d: u64, n: u64, seed: u64) -> Result<Answers, Memory>
+    ensures text { IfOk result (λ a. a.text ≡ bench_text d n seed) }
+    ensures refusing { IfOk result (λ a. a.refusing ≡ false) }
+{
+    Ok(Answers {
+        text: bench(alloc, d, n, seed)?,
+        refusing: false,
+    })
 }
 
 const USAGE: &[u8] = b"usage: simp run | simp replay | simp bench D N SEED\n";

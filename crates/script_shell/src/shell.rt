@@ -3,19 +3,22 @@ ghost use Rattle.std.specs.List.{flat_map};
 ghost use Rattle.simplex.specs.FirstFailing.{first_failing};
 ghost use Rattle.simplex.specs.SimplexFault.{set};
 ghost use Rattle.facet_set.specs.Complex.{generated};
+ghost use Rattle.reply_texts.specs.Replies.{facets_reply};
 ghost use Rattle.shell_names.specs.State.{holds, entry, present};
-ghost use Rattle.script_shell.specs.Commands.{meaning, failed, state_after, reply_to, facets_reply, list_tests};
+ghost use Rattle.script_shell.specs.Commands.{meaning, failed, state_after, reply_to, list_tests};
 ghost use Rattle.script_shell.specs.Limits.{IsWithinStandard};
+ghost use Rattle.script_shell.specs.Replays.{AreSound, certificate_for, certificate_to};
 ghost use Rattle.script_shell.specs.Stops.{StopsAt};
 
 use crate::asking::ask;
 use crate::changing::change;
+use crate::deciding::{equivalent, manifold, sphere};
 use crate::lists::generated;
 use crate::making::assign;
-use crate::replies::facets_reply;
 use crate::stop::Stop;
 use crate::{Limits, Reply};
 use facet_set::Facets;
+use reply_texts::facets_reply;
 use script_text::{Command, Name};
 use shell_names::Names;
 use simplex::{Lists, Memory, Text};
@@ -60,6 +63,7 @@ impl Shell {
         ensures state { OnOk result (self.new ≡ (state_after self.old.1 self.old.0 command.now, self.old.1)) }
         ensures text { IfOk result (λ r. r.text ≡ reply_to self.old.1 self.old.0 command.now) }
         ensures refusal { IfOk result (λ r. r.refusal ≡ failed self.old.1 self.old.0 command.now) }
+        ensures sound { OnOk result (AreSound (certificate_to self.old.1 self.old.0 command.now)) }
         ensures err { OnErr result (self.new ≡ self.old) }
     {
         match self.obey(command) {
@@ -75,6 +79,7 @@ impl Shell {
         ensures text { IfOk result (λ text. text ≡ (meaning self.old.1 self.old.0 command.now).reply) }
         ensures state { OnOk result (self.new ≡ ((meaning self.old.1 self.old.0 command.now).after, self.old.1)) }
         ensures refused { IfErr result (λ stop. StopsAt stop (failed self.old.1 self.old.0 command.now)) }
+        ensures sound { OnOk result (AreSound (certificate_for self.old.0 command.now)) }
         ensures err { OnErr result (self.new ≡ self.old) }
     {
         match command {
@@ -85,6 +90,18 @@ impl Shell {
             Command::Ask { name, question } => ask(self.alloc, &self.names, name, question),
             Command::Change { name, edit } => {
                 change(self.alloc, self.limits, &mut self.names, name, edit)
+            }
+            Command::Sphere { name, budget, seed } => {
+                sphere(self.alloc, &self.names, name, *budget, *seed)
+            }
+            Command::Equivalent {
+                left,
+                right,
+                budget,
+                seed,
+            } => equivalent(self.alloc, &self.names, left, right, *budget, *seed),
+            Command::Manifold { name, budget, seed } => {
+                manifold(self.alloc, &self.names, name, *budget, *seed)
             }
         }
     }

@@ -6,6 +6,7 @@ use local_parts::PartFault;
 use script_text::Condition;
 use simplex::{Memory, SimplexFault};
 use std::alloc::AllocError;
+use verdicts::VerdictFault;
 
 /// Why a command stops before its end.
 #[derive(Clone, Copy, Debug, PartialEq, Eq)]
@@ -135,6 +136,24 @@ impl From<BettiFault> for Stop {
         match fault {
             BettiFault::RankLimit { .. } => Stop::Refused(Condition::RankLimit),
             BettiFault::Memory => Stop::Memory,
+        }
+    }
+}
+
+impl From<VerdictFault> for Stop {
+    ghost use Rattle.std.specs.Prelude.{◌≡◌};
+    ghost use Rattle.script_shell.specs.Stops.{verdict_stop};
+
+    ghost from_gives = { λ fault s. s ≡ verdict_stop fault };
+
+    fn from(fault: VerdictFault) -> Stop {
+        match fault {
+            VerdictFault::Void => Stop::Refused(Condition::Void),
+            VerdictFault::NotPure => Stop::Refused(Condition::NotPure),
+            VerdictFault::DimRange => Stop::Refused(Condition::DimRange),
+            VerdictFault::DimDiffers => Stop::Refused(Condition::DimDiffers),
+            VerdictFault::Budget => Stop::Refused(Condition::Budget),
+            VerdictFault::Memory => Stop::Memory,
         }
     }
 }

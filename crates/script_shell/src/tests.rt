@@ -65,7 +65,15 @@ fn scripts_have_their_transcripts(rt: HostRuntime) -> Result<(), Fail> {
 #[test]
 fn words_of_no_form_write_the_usage(rt: HostRuntime) -> Result<(), Fail> {
     let alloc = rt.alloc();
-    for text in ["", "go", "run x"] {
+    for text in [
+        "",
+        "go",
+        "run x",
+        "replay x",
+        "bench 12 1 1",
+        "bench 3 1",
+        "bench 3 01 1",
+    ] {
         let words = words_of(alloc, text)?;
         let mut source = SureSource::new(alloc, b"show [];", 7)?;
         let mut sink = SureSink::new(alloc, 7);
@@ -77,6 +85,18 @@ fn words_of_no_form_write_the_usage(rt: HostRuntime) -> Result<(), Fail> {
             b"usage: simp run | simp replay | simp bench D N SEED\n".as_slice()
         );
     }
+    Ok(())
+}
+
+#[test]
+fn replay_of_empty_input_checks_nothing(rt: HostRuntime) -> Result<(), Fail> {
+    let alloc = rt.alloc();
+    let words = words_of(alloc, "replay")?;
+    let mut source = SureSource::new(alloc, b"", 7)?;
+    let mut sink = SureSink::new(alloc, 7);
+    let ended = run_surely(alloc, words.as_slice(), &mut source, &mut sink);
+    assert_eq!(rt; ended, Exit::Done);
+    assert_eq!(rt; sink.written(), b"checked 0 accepted 0\n".as_slice());
     Ok(())
 }
 
@@ -321,6 +341,24 @@ fn options_and_walks_of_a_disk(rt: HostRuntime) -> Result<(), Fail> {
         ("undo D", "ok 1\n"),
         ("undo D", "ok 3\n"),
         ("reduce D 524287 1", "refused budget\n"),
+    ] {
+        let answered = answer(alloc, &mut shell, command)?;
+        assert_eq!(rt; answered.text(), reply.as_bytes(), "at {command}");
+    }
+    Ok(())
+}
+
+#[test]
+fn a_verdict_asks_for_its_names(rt: HostRuntime) -> Result<(), Fail> {
+    let alloc = rt.alloc();
+    let mut shell = Shell::new(alloc, Limits::STANDARD);
+    for (command, reply) in [
+        ("C := bdsimplex 2", "ok 3\n"),
+        ("sphere Q 5 1", "refused no_name\n"),
+        ("manifold Q 5 1", "refused no_name\n"),
+        ("equivalent Q C 5 1", "refused no_name\n"),
+        ("equivalent C Q 5 1", "refused no_name\n"),
+        ("print C", "facets [[1,2],[1,3],[2,3]]\n"),
     ] {
         let answered = answer(alloc, &mut shell, command)?;
         assert_eq!(rt; answered.text(), reply.as_bytes(), "at {command}");

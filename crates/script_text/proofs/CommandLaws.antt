@@ -154,6 +154,9 @@ guessed (command.Change x (edit.Collapse a)) = ap (of_one (λ a. Some (command.C
 guessed (command.Change x (edit.Reduce budget seed)) = refl
 guessed (command.Change x edit.Undo) = refl
 guessed (command.Change x edit.Redo) = refl
+guessed (command.Sphere x budget seed) = refl
+guessed (command.Equivalent x y budget seed) = refl
+guessed (command.Manifold x budget seed) = refl
 
 -- ---- the laws
 spelled_in : (c : Command) → command_in (command_tokens c) ≡ Some c

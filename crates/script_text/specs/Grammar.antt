@@ -84,3 +84,6 @@ command_tokens (command.Show ls) = Word (codes "show") ∷ lists ls
 command_tokens (command.Make x m) = Word x ∷ Assign ∷ maker_tokens m
 command_tokens (command.Ask x q) = question_tokens x q
 command_tokens (command.Change x e) = edit_tokens x e
+command_tokens (command.Sphere x budget seed) = Word (codes "sphere") ∷ Word x ∷ number budget ++ number seed
+command_tokens (command.Equivalent x y budget seed) = Word (codes "equivalent") ∷ Word x ∷ Word y ∷ number budget ++ number seed
+command_tokens (command.Manifold x budget seed) = Word (codes "manifold") ∷ Word x ∷ number budget ++ number seed

@@ -124,6 +124,9 @@ spoken verb.Collapse ts = command.Change (name_in ts) (edit.Collapse (list_in 0 
 spoken verb.Reduce ts = command.Change (name_in ts) (edit.Reduce (number_in 0 ts) (number_in 1 ts))
 spoken verb.Undo ts = command.Change (name_in ts) edit.Undo
 spoken verb.Redo ts = command.Change (name_in ts) edit.Redo
+spoken verb.Sphere ts = command.Sphere (name_in ts) (number_in 0 ts) (number_in 1 ts)
+spoken verb.Equivalent ts = command.Equivalent (name_in ts) (next_name ts) (number_in 0 ts) (number_in 1 ts)
+spoken verb.Manifold ts = command.Manifold (name_in ts) (number_in 0 ts) (number_in 1 ts)
 
 -- behind the verb the tokens spell no command
 abbrev pub NoneSpoken : Verb → Option (List Token) → Type 0

@@ -25,9 +25,12 @@ verb_word verb.Collapse = codes "collapse"
 verb_word verb.Reduce = codes "reduce"
 verb_word verb.Undo = codes "undo"
 verb_word verb.Redo = codes "redo"
+verb_word verb.Sphere = codes "sphere"
+verb_word verb.Equivalent = codes "equivalent"
+verb_word verb.Manifold = codes "manifold"
 
 abbrev pub verbs : List Verb
-verbs = verb.Show ∷ verb.Print ∷ verb.Fvec ∷ verb.Hvec ∷ verb.Gvec ∷ verb.Euler ∷ verb.Faces ∷ verb.Degree ∷ verb.Options ∷ verb.Betti ∷ verb.Components ∷ verb.Closed ∷ verb.Strong ∷ verb.Flip ∷ verb.Add ∷ verb.Drop ∷ verb.Collapse ∷ verb.Reduce ∷ verb.Undo ∷ verb.Redo ∷ []
+verbs = verb.Show ∷ verb.Print ∷ verb.Fvec ∷ verb.Hvec ∷ verb.Gvec ∷ verb.Euler ∷ verb.Faces ∷ verb.Degree ∷ verb.Options ∷ verb.Betti ∷ verb.Components ∷ verb.Closed ∷ verb.Strong ∷ verb.Flip ∷ verb.Add ∷ verb.Drop ∷ verb.Collapse ∷ verb.Reduce ∷ verb.Undo ∷ verb.Redo ∷ verb.Sphere ∷ verb.Equivalent ∷ verb.Manifold ∷ []
 
 -- the verb that a word is, if it is one
 abbrev pub verb_of : List ℕ → Option Verb

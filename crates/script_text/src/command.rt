@@ -5,13 +5,43 @@ use simplex::{Lists, Numbers};
 #[derive(Debug, Drop)]
 pub enum Command {
     /// `show lists`: the facets that the lists generate.
-    Show { lists: Lists },
+    Show {
+        lists: Lists,
+    },
     /// `N := maker`: the name holds what the maker makes.
-    Make { name: Name, maker: Maker },
+    Make {
+        name: Name,
+        maker: Maker,
+    },
     /// A question to the complex of the name.
-    Ask { name: Name, question: Question },
+    Ask {
+        name: Name,
+        question: Question,
+    },
     /// A change of the complex of the name.
-    Change { name: Name, edit: Edit },
+    Change {
+        name: Name,
+        edit: Edit,
+    },
+    /// `sphere X B SEED`: whether a walk of at most B flips shows that X is a sphere.
+    Sphere {
+        name: Name,
+        budget: u64,
+        seed: u64,
+    },
+    /// `equivalent X Y B SEED`: whether walks of at most B flips show that X and Y are equivalent under flips.
+    Equivalent {
+        left: Name,
+        right: Name,
+        budget: u64,
+        seed: u64,
+    },
+    /// `manifold X B SEED`: whether a walk of at most B flips for each vertex shows that X is a manifold.
+    Manifold {
+        name: Name,
+        budget: u64,
+        seed: u64,
+    },
 }
 
 /// What makes a complex.

@@ -15,7 +15,8 @@ use crate::parts::{read_assign, read_word};
 use crate::verb::Verb;
 use crate::whole::{
     name_list, name_lists, name_number, name_numbers, name_two_lists, three_numbers,
-    two_name_lists, two_names, two_numbers, whole_lists, whole_name, whole_number,
+    two_name_lists, two_names, two_names_numbers, two_numbers, whole_lists, whole_name,
+    whole_number,
 };
 use crate::{Command, CommandFault, Edit, Maker, Name, Question};
 use simplex::Memory;
@@ -189,6 +190,24 @@ fn read_spoken(alloc: Global, verb: Verb, bytes: &[u8]) -> Result<Option<Command
         ))),
         Verb::Undo => Ok(whole_name(bytes).map(|x| change(x, Edit::Undo))),
         Verb::Redo => Ok(whole_name(bytes).map(|x| change(x, Edit::Redo))),
+        Verb::Sphere => Ok(name_numbers(bytes).map(|(name, budget, seed)| Command::Sphere {
+            name,
+            budget,
+            seed,
+        })),
+        Verb::Equivalent => {
+            Ok(two_names_numbers(bytes).map(|(left, right, budget, seed)| Command::Equivalent {
+                left,
+                right,
+                budget,
+                seed,
+            }))
+        }
+        Verb::Manifold => Ok(name_numbers(bytes).map(|(name, budget, seed)| Command::Manifold {
+            name,
+            budget,
+            seed,
+        })),
     }
 }
 

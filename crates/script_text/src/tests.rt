@@ -38,6 +38,24 @@ fn put_command(text: &mut Text, command: &Command) -> Result<(), Memory> {
             put_words(text, b"Change ", name)?;
             put_edit(text, edit)
         }
+        Command::Sphere { name, budget, seed } => {
+            put_words(text, b"Sphere ", name)?;
+            put_counts(text, &[*budget, *seed])
+        }
+        Command::Equivalent {
+            left,
+            right,
+            budget,
+            seed,
+        } => {
+            put_words(text, b"Equivalent ", left)?;
+            put_words(text, b" ", right)?;
+            put_counts(text, &[*budget, *seed])
+        }
+        Command::Manifold { name, budget, seed } => {
+            put_words(text, b"Manifold ", name)?;
+            put_counts(text, &[*budget, *seed])
+        }
     }
 }
 
@@ -243,6 +261,9 @@ fn each_first_word_is_a_name_too(rt: HostRuntime) -> Result<(), Fail> {
         b"drop",
         b"collapse",
         b"reduce",
+        b"sphere",
+        b"equivalent",
+        b"manifold",
     ] {
         let mut bytes = Text::new(rt.alloc());
         bytes.extend(word)?;
@@ -318,6 +339,12 @@ fn the_first_word_makes_any_other_command(rt: HostRuntime) -> Result<(), Fail> {
         (b"reduce X 100 7", b"Change X Reduce 100 7"),
         (b"undo X", b"Change X Undo"),
         (b"redo#\nundo", b"Change undo Redo"),
+        (b"sphere X 100 7", b"Sphere X 100 7"),
+        (
+            b"equivalent equivalent Y 0 999999999999999999",
+            b"Equivalent equivalent Y 0 999999999999999999",
+        ),
+        (b"manifold X 1 2", b"Manifold X 1 2"),
     ] {
         let text = spelled(rt.alloc(), bytes)?;
         assert_eq!(rt; text.map(|t| t.as_slice() == command), Some(true));
@@ -419,6 +446,14 @@ fn parts_that_lack_or_are_too_many_make_no_command(rt: HostRuntime) -> Result<()
         b"collapse [1] X",
         b"reduce X 1",
         b"reduce X 1 2 3",
+        b"sphere X 1",
+        b"sphere X Y 1 2",
+        b"equivalent X 1 2",
+        b"equivalent X Y 1",
+        b"equivalent X Y Z 1 2",
+        b"manifold 1 2",
+        b"manifold X 1 2 3",
+        b"X := sphere Y 1 2",
     ] {
         assert_eq!(rt; spelled(rt.alloc(), bytes)?.is_none(), true);
     }

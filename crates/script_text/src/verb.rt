@@ -24,9 +24,12 @@ pub enum Verb {
     Reduce,
     Undo,
     Redo,
+    Sphere,
+    Equivalent,
+    Manifold,
 }
 
-const VERBS: [Verb; 20] = [
+const VERBS: [Verb; 23] = [
     Verb::Show,
     Verb::Print,
     Verb::Fvec,
@@ -47,6 +50,9 @@ const VERBS: [Verb; 20] = [
     Verb::Reduce,
     Verb::Undo,
     Verb::Redo,
+    Verb::Sphere,
+    Verb::Equivalent,
+    Verb::Manifold,
 ];
 
 impl Verb {
@@ -75,6 +81,9 @@ impl Verb {
             Verb::Reduce => b"reduce",
             Verb::Undo => b"undo",
             Verb::Redo => b"redo",
+            Verb::Sphere => b"sphere",
+            Verb::Equivalent => b"equivalent",
+            Verb::Manifold => b"manifold",
         }
     }
 

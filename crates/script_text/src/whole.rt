@@ -94,6 +94,20 @@ pub fn name_numbers(bytes: &[u8]) -> Option<(Name, u64, u64)>
     Some((name, first, second))
 }
 
+/// Two words and two numbers, and nothing behind them.
+pub fn two_names_numbers(bytes: &[u8]) -> Option<(Name, Name, u64, u64)>
+    ensures some { IfSome result (λ p. tokens bytes.now ≡ Some (word p.0 ++ (word p.1 ++ (number p.2 ++ number p.3)))) }
+    ensures none { IsNone result → (x y : List ℕ) (m n : ℕ) → tokens bytes.now ≡ Some (word x ++ (word y ++ (number m ++ number n))) → ⊥ }
+{
+    let Some((left, rest)) = read_word(bytes) else {
+        return None;
+    };
+    let Some((right, first, second)) = name_numbers(rest) else {
+        return None;
+    };
+    Some((left, right, first, second))
+}
+
 /// Two words, and nothing behind them.
 pub fn two_names(bytes: &[u8]) -> Option<(Name, Name)>
     ensures some { IfSome result (λ p. tokens bytes.now ≡ Some (word p.0 ++ word p.1)) }

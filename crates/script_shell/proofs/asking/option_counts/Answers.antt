@@ -2,7 +2,7 @@ use Rattle.std.proofs.Common.{◌≡◌, ℕ, ℤ, List, map, pos, ap, ◌∙◌
 use Rattle.std.specs.List.{range_with_len}
 use Rattle.std.specs.Prelude.{codes}
 use Rattle.facet_set.specs.Numbers.{size}
-use Rattle.script_shell.specs.Commands.{numbers_reply}
+use Rattle.reply_texts.specs.Replies.{numbers_reply}
 use Rattle.script_shell.proofs.Options.{integers_of, option_count}
 use Rattle.script_shell.proofs.asking.option_counts.Goals as goal
 

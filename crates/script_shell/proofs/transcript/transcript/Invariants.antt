@@ -1,5 +1,6 @@
 use Rattle.std.proofs.Common.{◌≡◌, ◌≤◌, ◌+◌, ◌++◌, ◌||◌, false, length}
 use Rattle.script_shell.specs.Limits.{standard}
+use Rattle.script_shell.specs.Replays.{AreSound, certificates_from}
 use Rattle.script_shell.specs.Transcript.{cut_from, replies, refuses, start}
 use Rattle.script_shell.proofs.transcript.transcript.Given as goal
 
@@ -11,6 +12,8 @@ invariant-loop-len l = record {
       ≡ refuses start (cut_from false l.bytes).ended (cut_from false l.bytes).rest;
   count : l.session.count + length l.rest ≤ length l.bytes;
   standard : l.session.shell.1 ≡ standard;
+  sound : AreSound (certificates_from (record { count = l.session.count; state = l.session.shell.0 }) (cut_from false l.rest).ended)
+      → AreSound (certificates_from start (cut_from false l.bytes).ended);
 }
 
 abbrev pub decreases-loop-len : goal.decreases-loop-len

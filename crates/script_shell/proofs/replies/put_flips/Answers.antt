@@ -1,8 +1,0 @@
-use Rattle.script_text.proofs.FrontLaws.{whole_text}
-use Rattle.script_shell.specs.Commands.{flip_text}
-use Rattle.script_shell.proofs.replies.put_flips.Goals as goal
-
-pub returns : goal.returns
-returns c =
-    whole_text flip_text c.args.out.now c.put_flip.new.out c.loop-flip.out c.args.flips.now c.in-Some.first.now c.in-Some.rest.now c.loop-flip.flip-index
-    c.in-Some.ensures.cases.0 c.in_ok-put_flip.ensures c.loop-flip.invariant c.loop-flip-test.false
