@@ -1,14 +1,15 @@
 -- How far the flips of a list go.
-use Rattle.std.proofs.Common.{◌≡◌, ℕ, zero, suc, ◌+◌, ◌≤◌, ◌<◌, true, false, cond, ◌&&◌, List, [], ◌∷◌, length, get_or, drop, add-one, zero-add, refl, sym, ap, ◌∙◌, arith}
+use Rattle.std.proofs.Common.{◌≡◌, ℕ, zero, suc, ◌+◌, ◌≤◌, ◌<◌, true, false, cond, leb, ◌&&◌, List, [], ◌∷◌, length, get_or, drop, add-one, zero-add, refl, sym, ap, ◌∙◌, arith}
+use mathlib.Core.Bool.{true≢false}
 use Rattle.std.proofs.Math.Seq.{drop-cons}
+use Rattle.std.proofs.lemmas.Bool.Decides.{nat_tests}
 use Rattle.simplex.specs.declared.flip.Flip.{Flip}
-use Rattle.std.specs.List.{list_all}
-use Rattle.simplex.specs.Simplex.{is_simplex}
-use Rattle.facet_set.specs.Complex.{is_complex}
-use Rattle.facet_set.specs.Numbers.{is_pure}
+use Rattle.simplex.proofs.InOrderLaws.{and_both}
+use Rattle.facet_set.specs.Numbers.{size}
 use Rattle.facet_set.specs.Flips.{allowed, flip, goes, after}
-use Rattle.facet_set.proofs.FlipLaws.{flips_back_lem, parts_of}
-use Rattle.flip_certificate.specs.Valid.{flips_that_go}
+use Rattle.facet_set.proofs.FlipLaws.{parts_of}
+use Rattle.flip_certificate.specs.Valid.{flips_that_go, is_pure_from}
+use Rattle.cert_replay.proofs.Decided.{false_from}
 
 -- the flips of the list go exactly where the rest of them, after i, go from d, and both lead to one complex
 pub record Reaches (c d : List (List ℕ)) (ms rest : List Flip) (i : ℕ) : Type 0 where
@@ -54,7 +55,25 @@ past (m ∷ ms) (suc n) h = past ms n (omega arith)
 pub last_way : (c d : List (List ℕ)) (ms : List Flip) (n : ℕ) → length ms ≤ n → Reaches c d ms (drop n ms) n → (goes c ms ≡ true) × (after c ms ≡ d)
 last_way c d ms n h w = let e = past ms n h in (w.goes_is ∙ ap (goes d) e, w.after_is ∙ ap (after d) e)
 
--- an allowed flip leads to a pure complex
-pub still_pure : (c : List (List ℕ)) (a b : List ℕ) → list_all is_simplex c ≡ true → is_complex c ≡ true → is_simplex a ≡ true → is_simplex b ≡ true → allowed c a b ≡ true
-    → (is_pure c ≡ true) × (is_pure (flip c a b) ≡ true)
-still_pure c a b simple cx sa sb ok = ((parts_of c a b ok).pure, (parts_of (flip c a b) b a (flips_back_lem c a b simple cx sa sb ok).0).pure)
+-- ---- on complexes without a table
+pub none_goes : (c : List (List ℕ)) (ms : List Flip) → length ms ≡ 0 → (goes c ms ≡ true) × (after c ms ≡ c)
+none_goes c [] h = (refl, refl)
+none_goes c (m ∷ ms) h = absurd (omega arith)
+
+-- a complex on which a flip is allowed is pure, with a label in each facet
+pure_for : (c : List (List ℕ)) (a b : List ℕ) → allowed c a b ≡ true → is_pure_from 1 c ≡ true
+pure_for c a b ok =
+    let p = parts_of c a b ok in
+    let x = p.sizes.0 in let y = p.sizes.1 in let z = p.sizes.2 in
+    and_both _ _ p.pure (one (omega arith))
+  where
+    one : 1 ≤ size c → leb 1 (size c) ≡ true
+    one e = grind (arith, nat_tests)
+
+pub impure_stuck : (c : List (List ℕ)) (ms : List Flip) → 0 < length ms → is_pure_from 1 c ≡ false → (goes c ms ≡ false) × (flips_that_go c ms ≡ 0)
+impure_stuck c [] h k = absurd (omega arith)
+impure_stuck c (m ∷ ms) h k =
+    let out : allowed c m.a m.b ≡ false = false_from _ (λ ok. true≢false (sym (pure_for c m.a m.b ok) ∙ k)) in (
+      ap (λ v. v && goes (flip c m.a m.b) ms) out,
+      ap (λ v. cond v (1 + flips_that_go (flip c m.a m.b) ms) 0) out,
+    )

@@ -1,3 +1,4 @@
+pub mod Corners
 pub mod Faults
 pub mod Pieces
 pub mod Relabelled

@@ -1,60 +1,26 @@
-// Whether a flip is allowed, by the facets alone (Pachner; Bjorner and Lutz).
-ghost use Rattle.std.specs.Prelude.{◌≡◌, ◌≤◌, ◌+◌, ◌&&◌, ◌==◌, IsTrue, length, nat_lt};
-ghost use Rattle.std.specs.List.{list_all};
-ghost use Rattle.simplex.specs.Simplex.{is_simplex, is_disjoint, len_limit};
-ghost use Rattle.facet_set.specs.Complex.{is_complex, facets_with};
-ghost use Rattle.facet_set.specs.Numbers.{is_pure, size};
-ghost use Rattle.facet_set.specs.Flips.{allowed, ball, same_facets};
+// The parts of whether a flip is allowed (Pachner; Bjorner and Lutz), on a list of facets.
+ghost use Rattle.std.specs.Prelude.{◌≡◌, ◌+◌, ◌&&◌, ◌==◌, IsTrue, length, nat_lt};
+ghost use Rattle.simplex.specs.Simplex.{is_simplex};
+ghost use Rattle.facet_set.specs.Complex.{is_face};
 ghost use Rattle.cert_replay.specs.Star.{lies_in_join, is_counted_star};
 
-use facet_set::Facets;
 use simplex::{Flip, Simplex};
 
-/// Whether the flip is allowed on a complex of which it is known whether it is pure.
-pub fn is_allowed(c: &Facets, pure: bool, flip: &Flip) -> bool
-    requires { pure ≡ is_pure c.now }
-    ensures { result ≡ allowed c.now flip.now.a flip.now.b }
-{
-    if !pure {
-        return false;
-    }
-    let facets = c.as_slice();
-    if !has_flip_size(facets, flip) {
-        return false;
-    }
-    if !flip.a.disjoint(&flip.b) {
-        return false;
-    }
-    is_star(facets, flip) && !c.has_face(&flip.b)
-}
-
-// The number of labels of each facet.
-fn size(facets: &[Simplex]) -> usize
-    requires { IsTrue (is_pure facets.now) }
-    ensures value { result ≡ size facets.now }
-    ensures short { result ≤ len_limit }
-{
-    match facets.first() {
-        None => 0,
-        Some(first) => first.len(),
-    }
-}
-
-// Whether A and B have labels, and together as many as a facet and one.
-fn has_flip_size(facets: &[Simplex], flip: &Flip) -> bool
-    requires { IsTrue (is_pure facets.now) }
-    ensures { result ≡ (nat_lt 0 (length flip.now.a) && nat_lt 0 (length flip.now.b)
-        && (length flip.now.a + length flip.now.b == size facets.now + 1)) }
-{
-    !flip.a.is_empty() && !flip.b.is_empty() && flip.a.len() + flip.b.len() == size(facets) + 1
-}
-
-// What the type says of the two sets of a flip.
+/// What the type says of the two sets of a flip.
 pub fn are_simplices(flip: &Flip)
     ensures a { IsTrue (is_simplex flip.now.a) }
     ensures b { IsTrue (is_simplex flip.now.b) }
 {
     let _lens = (flip.a.len(), flip.b.len());
+}
+
+/// Whether A and B have labels, and together one more than so many.
+pub fn has_flip_size(size: usize, flip: &Flip) -> bool
+    ensures { result ≡ (nat_lt 0 (length flip.now.a) && nat_lt 0 (length flip.now.b)
+        && (length flip.now.a + length flip.now.b == size + 1)) }
+{
+    let len = flip.a.len() + flip.b.len();
+    !flip.a.is_empty() && !flip.b.is_empty() && len > 0 && len - 1 == size
 }
 
 // Whether each label is one of A or of B.
@@ -67,8 +33,8 @@ fn lies_in_join(facet: &Simplex, flip: &Flip) -> bool
         .all(|label| flip.a.has(*label) || flip.b.has(*label))
 }
 
-// Whether the facets that contain A are as many as the labels of B, and each has labels of A and B alone.
-fn is_counted_star(facets: &[Simplex], flip: &Flip) -> bool
+/// Whether the facets that contain A are as many as the labels of B, and each has labels of A and B alone.
+pub fn is_counted_star(facets: &[Simplex], flip: &Flip) -> bool
     ensures { result ≡ is_counted_star facets.now flip.now.a flip.now.b }
 {
     let mut degree = 0;
@@ -83,15 +49,9 @@ fn is_counted_star(facets: &[Simplex], flip: &Flip) -> bool
     degree == flip.b.len()
 }
 
-// Whether the facets that contain A are exactly A with B minus one label, for each label of B.
-fn is_star(facets: &[Simplex], flip: &Flip) -> bool
-    requires simplices { IsTrue (list_all is_simplex facets.now) }
-    requires complex { IsTrue (is_complex facets.now) }
-    requires pure { IsTrue (is_pure facets.now) }
-    requires sizes { length flip.now.a + length flip.now.b ≡ size facets.now + 1 }
-    requires apart { IsTrue (is_disjoint flip.now.a flip.now.b) }
-    ensures { result ≡ same_facets (facets_with facets.now flip.now.a) (ball flip.now.a flip.now.b) }
+/// Whether the simplex lies in one of the facets.
+pub fn lies_in_one(facets: &[Simplex], s: &Simplex) -> bool
+    ensures { result ≡ is_face facets.now s.now }
 {
-    are_simplices(flip);
-    is_counted_star(facets, flip)
+    facets.iter().any(|facet| s.within(facet))
 }

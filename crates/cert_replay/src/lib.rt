@@ -2,13 +2,15 @@
 #![tactic(auto)]
 
 mod allowing;
-mod flipping;
+mod balls;
+mod corners;
 mod links;
 mod maps;
 mod moving;
 mod relabelled;
 mod replay_fault;
 mod replaying;
+mod table;
 #[cfg(test)]
 mod tests;
 

@@ -2,12 +2,11 @@
 ghost use Rattle.std.specs.Prelude.{◌≡◌, ◌+◌, ◌⊎◌, false, IfOk, OnOk, IfErr, IsTrue};
 ghost use Rattle.facet_set.specs.Flips.{goes, after};
 ghost use Rattle.flip_certificate.specs.Count.{stopped};
-ghost use Rattle.flip_certificate.specs.Valid.{first_stuck};
+ghost use Rattle.flip_certificate.specs.Valid.{first_stuck, is_pure_from};
 ghost use Rattle.cert_replay.specs.declared.replay_fault.ReplayFault.TheVariants as fault;
 
 use crate::ReplayFault;
-use crate::allowing::is_allowed;
-use crate::flipping::flipped;
+use crate::table::Table;
 use facet_set::Facets;
 use simplex::Flip;
 use std::alloc::Global;
@@ -25,17 +24,24 @@ pub fn moved(
     ensures faults { IfErr result (λ e. (e ≡ fault.Memory)
         ⊎ ((goes start.now flips.now ≡ false) × (e ≡ fault.Flip (first_stuck before start.now flips.now)))) }
 {
-    let pure = start.is_pure();
-    let mut complex = start.copy()?;
+    if flips.is_empty() {
+        return Ok(start.copy()?);
+    }
+    if !is_pure_from(1, start) {
+        return Err(ReplayFault::Flip {
+            k: number(before, 0),
+        });
+    }
+    let mut table = Table::of(alloc, start)?;
     for (i, flip) in flips.iter().enumerate() {
-        if !is_allowed(&complex, pure, flip) {
+        if !table.allows(alloc, flip)? {
             return Err(ReplayFault::Flip {
                 k: number(before, i),
             });
         }
-        complex = flipped(alloc, &complex, flip)?;
+        table = table.flipped(alloc, flip)?;
     }
-    Ok(complex)
+    Ok(table.facets(alloc)?)
 }
 
 // The number of the flip at the place after so many, or the last u64 where that is less.
@@ -43,4 +49,11 @@ fn number(before: u64, place: usize) -> u64
     ensures { result ≡ stopped (before + place + 1) }
 {
     before.saturating_add(place as u64).saturating_add(1)
+}
+
+/// Whether the complex is pure, of at least so many labels a facet.
+pub fn is_pure_from(least: usize, c: &Facets) -> bool
+    ensures { result ≡ is_pure_from least c.now }
+{
+    c.is_pure() && least <= c.size()
 }

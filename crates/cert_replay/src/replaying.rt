@@ -13,7 +13,7 @@ ghost use Rattle.cert_replay.specs.declared.replay_fault.ReplayFault.TheVariants
 use crate::ReplayFault;
 use crate::links::vertex_link;
 use crate::maps::{are_equal, is_map};
-use crate::moving::moved;
+use crate::moving::{is_pure_from, moved};
 use crate::relabelled::image;
 use facet_set::Facets;
 use flip_certificate::{Block, Blocks, Certificate, flip_count};
@@ -103,13 +103,6 @@ fn test_manifold(alloc: Global, start: &Facets, blocks: &Blocks) -> Result<(), R
         return Err(ReplayFault::Links { at });
     }
     test_blocks(alloc, start, blocks.as_slice())
-}
-
-// Whether the complex is pure, of at least so many labels a facet.
-fn is_pure_from(least: usize, c: &Facets) -> bool
-    ensures { result ≡ is_pure_from least c.now }
-{
-    c.is_pure() && least <= c.size()
 }
 
 // The vertices of the blocks.

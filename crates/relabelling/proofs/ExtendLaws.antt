@@ -25,7 +25,7 @@ use Rattle.facet_set.proofs.GeneratedLaws.{same_at, same_is}
 use Rattle.facet_set.proofs.OptionLaws.{in_verts, from_verts}
 use Rattle.relabelling.specs.Bijections.{is_map_to, maps, goes_to, extension}
 use Rattle.relabelling.specs.Relabelled.{relabelled, becomes}
-use Rattle.relabelling.specs.Walks.{IsKnown, AreLabels, Extends}
+use Rattle.relabelling.specs.Walks.{IsKnown, AreLabels, Extends, NoneAgrees, map_of}
 use Rattle.relabelling.proofs.CarryLaws.{facet_carried}
 use Rattle.relabelling.proofs.MapLaws.{firsts, seconds, image_pair, in_relabelled, from_relabelled}
 use Rattle.relabelling.proofs.MapsLaws.{in_maps, from_maps, firsts_at, firsts_distinct, same_pairs, images_there}
@@ -137,7 +137,7 @@ given_are_labels c d m s given h k l i g t =
     all_at is_label b (relabelled m s) (labels_of (relabelled m s) (all_at is_simplex (relabelled m s) d l (facet_carried c d m s h k g i))) (subst (λ z. In z (relabelled m s)) (sym a.2) (in_relabelled m s a.0 a.1)))
 
 -- ---- the one that was sought
-find_one : {X : Type 0} (q : X → Bool) (xs : List X) (x : X) → ((y : X) → In y xs → q y ≡ true → y ≡ x) → In x xs → q x ≡ true → find q xs ≡ Some x
+pub find_one : {X : Type 0} (q : X → Bool) (xs : List X) (x : X) → ((y : X) → In y xs → q y ≡ true → y ≡ x) → In x xs → q x ≡ true → find q xs ≡ Some x
 find_one q [] x f i h = absurd (none x i)
 find_one q (y ∷ xs) x f i h =
     elim (q y) as (λ v. q y ≡ v → cond v (Some y) (find q xs) ≡ Some x) [
@@ -167,14 +167,17 @@ module _ {S : Type 0} (c d : List (List ℕ)) (s given : List ℕ) (g t : HashMa
       image_paired (becomes t) (verts c) a (in_verts c s a start i) ∙ becomes_at t a b (extends.kept a b (has_given a ∙ e))))
       ∙ same_is given given ∙ itself nat_list_cmp_total given
 
-  pub found_extension : (ps : List (ℕ × ℕ)) (b : Bool) → ps ≡ paired (becomes t) (verts c) → length (verts c) ≡ length (verts d) → b ≡ same_facets (image ps c) d → b ≡ true → Some ps ≡ extension c d s given
-  found_extension ps b e n f h =
-      ap Some e ∙ sym (find_one (λ m. goes_to m s given) (maps c d) (paired (becomes t) (verts c)) (λ m i k. only_one m (from_maps c d m i) k)
-      (in_maps c d (paired (becomes t) (verts c)) simplices complex (whole_map c d (paired (becomes t) (verts c)) (firsts_paired (becomes t) (verts c)) n (ap (λ m. same_facets (image m c) d) (sym e) ∙ sym f ∙ h))) goes_there)
+  pub whole_extension : length (verts c) ≡ length (verts d) → map_of c d (verts c) t ≡ extension c d s given
+  whole_extension n =
+      elim (same_facets (image (paired (becomes t) (verts c)) c) d) as (λ b. same_facets (image (paired (becomes t) (verts c)) c) d ≡ b → cond b (Some (paired (becomes t) (verts c))) None ≡ extension c d s given) [
+        | true ↦ λ b. sym (find_one (λ m. goes_to m s given) (maps c d) (paired (becomes t) (verts c)) (λ m i k. only_one m (from_maps c d m i) k)
+            (in_maps c d (paired (becomes t) (verts c)) simplices complex (whole_map c d (paired (becomes t) (verts c)) (firsts_paired (becomes t) (verts c)) n b)) goes_there)
+        | false ↦ λ b. sym (no_extension c d s given (λ m g k. false_at (same_facets (image (paired (becomes t) (verts c)) c) d) b (ap (λ z. same_facets (image z c) d) (sym (only_one m g k)) ∙ and_right (is_map m c) _ g)))
+      ] refl
 
-  pub missed_extension : (ps : List (ℕ × ℕ)) (b : Bool) → ps ≡ paired (becomes t) (verts c) → b ≡ same_facets (image ps c) d → b ≡ false → None ≡ extension c d s given
-  missed_extension ps b e f h = sym (no_extension c d s given (λ m g k.
-      false_at (same_facets (image ps c) d) (sym f ∙ h) (ap (λ z. same_facets (image z c) d) (e ∙ sym (only_one m g k)) ∙ and_right (is_map m c) _ g)))
+-- no bijection has the given images where none agrees with them
+pub none_extension : {S : Type 0} (c d : List (List ℕ)) (s given : List ℕ) (g : HashMap ℕ ℕ S) → ((a : ℕ) → get nat_eq g a ≡ lookup (nat_eq a) (zip s given)) → NoneAgrees c d g → None ≡ extension c d s given
+none_extension c d s given g has f = sym (no_extension c d s given (λ m h k. f m h (λ x y e. given_under m s given x y (same_at (map (image_of m) s) given k) (sym (has x) ∙ e))))
 
 -- no bijection changes the number of vertices
 pub apart_numbers : (c d : List (List ℕ)) (s given vs ws : List ℕ) (n k : ℕ) → list_all is_simplex c ≡ true → is_complex c ≡ true → vs ≡ verts c → ws ≡ verts d → n ≡ length vs → k ≡ length ws → (n ≡ k → ⊥) → None ≡ extension c d s given

@@ -1,8 +1,10 @@
 pub mod CarryLaws
 pub mod ColourLaws
 pub mod ExtendLaws
+pub mod FlagLaws
 pub mod ForcedLaws
 pub mod LeadLaws
+pub mod LeastLaws
 pub mod MapLaws
 pub mod MapsLaws
 pub mod RidgeLaws

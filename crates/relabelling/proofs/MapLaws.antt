@@ -90,7 +90,7 @@ within_back m c s t r i j w = in_within s t (λ a k.
     let q = from_relabelled m t (image_of m a) (within_in (relabelled m s) (relabelled m t) (image_of m a) w (in_relabelled m s a k)) in
     subst (λ b. In b t) (sym (image_apart m a q.0 r.apart (r.known s i a k) (r.known t j q.0 q.1) q.2)) q.1)
 
-distinct_images : (m : List (ℕ × ℕ)) (s : List ℕ) → is_distinct (seconds m) ≡ true → ((a : ℕ) → In a s → In a (firsts m)) → is_set s ≡ true → is_distinct (map (image_of m) s) ≡ true
+pub distinct_images : (m : List (ℕ × ℕ)) (s : List ℕ) → is_distinct (seconds m) ≡ true → ((a : ℕ) → In a s → In a (firsts m)) → is_set s ≡ true → is_distinct (map (image_of m) s) ≡ true
 distinct_images m [] h f up = refl
 distinct_images m (a ∷ s) h f up =
     distinct_more (image_of m a) (map (image_of m) s)

@@ -29,7 +29,7 @@ in_arrangements (suc n) s (a ∷ t) e h f =
     (in_map (λ u. a ∷ u) t (arrangements n (without s a)) (in_arrangements n (without s a) t (omega arith) (distinct_rest a t h)
     (λ b i. in_without s a b (f b (later i)) (λ q. distinct_head a t h (subst (λ z. In z t) q i)))))
 
-zip_parts : (m : List (ℕ × ℕ)) → m ≡ zip (firsts m) (seconds m)
+pub zip_parts : (m : List (ℕ × ℕ)) → m ≡ zip (firsts m) (seconds m)
 zip_parts [] = refl
 zip_parts (p ∷ m) = ap (λ l. p ∷ l) (zip_parts m)
 
@@ -46,12 +46,19 @@ images_there c d m h k g b i =
     let is : image_of m p.0.0 ≡ b = pair_image m p.0.0 p.0.1 (firsts_distinct c m (and_left _ _ g)) p.1 ∙ sym p.2 in
     in_verts d (relabelled m at.0) b (facet_carried c d m at.0 h k g at.1) (subst (λ z. In z (relabelled m at.0)) is (in_relabelled m at.0 p.0.0 at.2))
 
+-- the images of a bijection are an arrangement
+pub images_arranged : (c d : List (List ℕ)) (m : List (ℕ × ℕ)) → list_all is_simplex c ≡ true → is_complex c ≡ true → is_map_to c d m ≡ true → In (seconds m) (arrangements (length (verts c)) (verts d))
+images_arranged c d m h k g =
+    in_arrangements (length (verts c)) (verts d) (seconds m) (length_images (λ (q : ℕ × ℕ). q.1) m ∙ sym (length_images (λ (q : ℕ × ℕ). q.0) m) ∙ ap length (firsts_at c m map_ok)) (and_right (pointwise nat_eq (firsts m) (verts c)) _ map_ok) (images_there c d m h k g)
+  where
+    map_ok : is_map m c ≡ true
+    map_ok = and_left _ _ g
+
 pub in_maps : (c d : List (List ℕ)) (m : List (ℕ × ℕ)) → list_all is_simplex c ≡ true → is_complex c ≡ true → is_map_to c d m ≡ true → In m (maps c d)
 in_maps c d m h k g =
     in_filter (is_map_to c d) m (map (zip (verts c)) (arrangements (length (verts c)) (verts d)))
     (subst (λ z. In z (map (zip (verts c)) (arrangements (length (verts c)) (verts d)))) (sym (zip_parts m ∙ ap (λ l. zip l (seconds m)) (firsts_at c m map_ok)))
-    (in_map (zip (verts c)) (seconds m) (arrangements (length (verts c)) (verts d))
-    (in_arrangements (length (verts c)) (verts d) (seconds m) (length_images (λ (q : ℕ × ℕ). q.1) m ∙ sym (length_images (λ (q : ℕ × ℕ). q.0) m) ∙ ap length (firsts_at c m map_ok)) (and_right (pointwise nat_eq (firsts m) (verts c)) _ map_ok) (images_there c d m h k g)))) g
+    (in_map (zip (verts c)) (seconds m) (arrangements (length (verts c)) (verts d)) (images_arranged c d m h k g))) g
   where
     map_ok : is_map m c ≡ true
     map_ok = and_left _ _ g

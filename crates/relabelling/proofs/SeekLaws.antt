@@ -102,7 +102,7 @@ as_they_are : (ts : List (List ℕ)) → map (λ t. [] ++ t) ts ≡ ts
 as_they_are [] = refl
 as_they_are (t ∷ ts) = ap (λ l. t ∷ l) (as_they_are ts)
 
-first_kept : (p : List (ℕ × ℕ) → Bool) (f : List ℕ → List (ℕ × ℕ)) (ts : List (List ℕ)) → slice_get (filter p (map f ts)) 0 ≡ option_map f (find (λ t. p (f t)) ts)
+pub first_kept : (p : List (ℕ × ℕ) → Bool) (f : List ℕ → List (ℕ × ℕ)) (ts : List (List ℕ)) → slice_get (filter p (map f ts)) 0 ≡ option_map f (find (λ t. p (f t)) ts)
 first_kept p f [] = refl
 first_kept p f (t ∷ ts) =
     elim (p (f t)) as (λ v. slice_get (cond v (f t ∷ filter p (map f ts)) (filter p (map f ts))) 0 ≡ option_map f (cond v (Some t) (find (λ t. p (f t)) ts))) [

@@ -1,11 +1,11 @@
 -- A walk from facet to facet.
-use Rattle.std.proofs.Common.{◌≡◌, ℕ, ◌+◌, ◌<◌, ◌≤◌, Bool, true, false, cond, List, [], ◌∷◌, ◌++◌, map, length, length-append, take, take_all, get_or, refl, sym, ap, ◌∙◌, subst, ◌⊎◌, inl, inr, arith, Some, None}
+use Rattle.std.proofs.Common.{◌≡◌, ℕ, suc, ◌+◌, ◌<◌, ◌≤◌, Bool, true, false, not, ◌&&◌, cond, List, [], ◌∷◌, ◌++◌, map, length, length-append, take, take_all, get_or, refl, sym, ap, ◌∙◌, subst, ◌⊎◌, inl, inr, arith, Some, None}
 use Rattle.std.specs.Prelude.{◌==◌, Option, nat_eq, is_some, unwrap_or, IsSome}
 use Rattle.std.specs.Bool.{IsTrue}
 use Rattle.std.specs.HashMap.{HashMap, get}
-use Rattle.std.specs.HashSet.{hash_set_len}
+use Rattle.std.specs.HashSet.{contains}
 use Rattle.std.specs.Cmp.Lexicographic.{pointwise}
-use Rattle.std.specs.List.{list_all}
+use Rattle.std.specs.List.{list_all, filter}
 use Rattle.std.proofs.lemmas.List.{take_more}
 use Rattle.simplex.specs.Simplex.{is_label, is_simplex, union, without}
 use Rattle.simplex.specs.SimplexFault.{set}
@@ -21,7 +21,7 @@ use Rattle.facet_set.proofs.OptionLaws.{from_verts}
 use Rattle.relabelling.specs.Bijections.{is_map_to}
 use Rattle.relabelling.specs.Relabelled.{relabelled, becomes}
 use Rattle.relabelling.specs.Ridges.{AreEnds, other_end}
-use Rattle.relabelling.specs.Walks.{IsKnown, AreLabels, Agrees, Extends, AreWays, GoesOn, is_unseen}
+use Rattle.relabelling.specs.Walks.{IsKnown, AreLabels, Agrees, NoneAgrees, Extends, AreWays, GoesOn, is_unseen, is_that, unseen_count}
 use Rattle.relabelling.specs.declared.extending.Walk.{Walk}
 use Rattle.relabelling.proofs.ForcedLaws.{carries, strong_chain}
 use Rattle.relabelling.proofs.MapLaws.{sets_of}
@@ -70,6 +70,31 @@ module _ {S : Type 0} where
       each None e = ap (λ q. is_label (unwrap_or q a)) e ∙ k
       each (Some b) e = ap (λ q. is_label (unwrap_or q a)) e ∙ h a b e
 
+  -- what no bijection agrees with stays so, and was so
+  pub none_later : (c d : List (List ℕ)) (t n : HashMap ℕ ℕ S) → Extends c d t n → NoneAgrees c d t → NoneAgrees c d n
+  none_later c d t n x f = λ m h g. f m h (λ a b e. g a b (x.kept a b e))
+
+  pub none_before : (c d : List (List ℕ)) (t n : HashMap ℕ ℕ S) → Extends c d t n → NoneAgrees c d n → NoneAgrees c d t
+  none_before c d t n x f = λ m h g. f m h (x.agrees m h g)
+
+  -- the image of the label across is the label across from the image of the ridge
+  pub forced_end : {R : Type 0} (c d : List (List ℕ)) (p q : HashMap (List ℕ) (ℕ × ℕ) R) (t : HashMap ℕ ℕ S) (r : List ℕ) (a b : ℕ) → AreWays c d p q → AreEnds c r a b → IsKnown t (a ∷ r)
+      → (m : List (ℕ × ℕ)) → IsTrue (is_map_to c d m) → Agrees t m → other_end (get (pointwise nat_eq) q (set (map (becomes t) r))) (becomes t a) ≡ Some (image_of m b)
+  forced_end c d p q t r a b w e k m h l =
+      let ridge : set (map (becomes t) r) ≡ relabelled m r = ap set (map_alike (becomes t) (image_of m) r (λ x i. agrees_at t m x l (k x (later i)))) in
+      let label : becomes t a ≡ image_of m a = agrees_at t m a l (k a first) in
+      ap (λ z. other_end (get (pointwise nat_eq) q z) (becomes t a)) ridge ∙ ap (λ z. other_end (get (pointwise nat_eq) q (relabelled m r)) z) label
+      ∙ told_end (get (pointwise nat_eq) q (relabelled m r)) d (relabelled m r) (image_of m a) (image_of m b) (w.d_told (relabelled m r)) (ends_carried c d m r a b (carries c d m w.simplices w.complex h) e)
+
+  pub leads_nowhere : {R : Type 0} (c d : List (List ℕ)) (p q : HashMap (List ℕ) (ℕ × ℕ) R) (t : HashMap ℕ ℕ S) (r : List ℕ) (a b : ℕ) (o : Option ℕ) → AreWays c d p q → AreEnds c r a b → IsKnown t (a ∷ r)
+      → o ≡ other_end (get (pointwise nat_eq) q (set (map (becomes t) r))) (becomes t a) → is_some o ≡ false → NoneAgrees c d t
+  leads_nowhere c d p q t r a b o w e k is n = λ m h l. false_at (is_some o) n (ap is_some (is ∙ forced_end c d p q t r a b w e k m h l))
+
+  pub leads_elsewhere : {R : Type 0} (c d : List (List ℕ)) (p q : HashMap (List ℕ) (ℕ × ℕ) R) (t : HashMap ℕ ℕ S) (r : List ℕ) (a b y : ℕ) (o : Option ℕ) → AreWays c d p q → AreEnds c r a b → IsKnown t (a ∷ r)
+      → o ≡ other_end (get (pointwise nat_eq) q (set (map (becomes t) r))) (becomes t a) → get nat_eq t b ≡ Some y → is_that o y ≡ false → NoneAgrees c d t
+  leads_elsewhere c d p q t r a b y o w e k is has n = λ m h l.
+      false_at (is_that o y) n (ap (λ z. is_that z y) (is ∙ forced_end c d p q t r a b w e k m h l) ∙ equal_from (image_of m b) y (l b y has))
+
   -- one more image: that across from the image of a ridge
   pub extends_more : {R : Type 0} (c d : List (List ℕ)) (p q : HashMap (List ℕ) (ℕ × ℕ) R) (t n : HashMap ℕ ℕ S) (r : List ℕ) (a b v : ℕ) → AreWays c d p q → AreEnds c r a b → IsKnown t (a ∷ r) → is_some (get nat_eq t b) ≡ false
       → v ≡ unwrap_or (other_end (get (pointwise nat_eq) q (set (map (becomes t) r))) (becomes t a)) b → ((x : ℕ) → get nat_eq n x ≡ cond (nat_eq b x) (Some v) (get nat_eq t x)) → Extends c d t n
@@ -93,18 +118,14 @@ module _ {S : Type 0} where
           ap is_label is ∙ told_label (get (pointwise nat_eq) q (set (map (becomes t) r))) d (set (map (becomes t) r)) (becomes t a) b (w.d_told (set (map (becomes t) r))) w.d_simplices (across_label c r b w.simplices e.1)
 
       forced : (m : List (ℕ × ℕ)) → IsTrue (is_map_to c d m) → Agrees t m → v ≡ image_of m b
-      forced m h l =
-          let ridge : set (map (becomes t) r) ≡ relabelled m r = ap set (map_alike (becomes t) (image_of m) r (λ x i. agrees_at t m x l (k x (later i)))) in
-          let label : becomes t a ≡ image_of m a = agrees_at t m a l (k a first) in
-          is ∙ ap (λ z. unwrap_or (other_end (get (pointwise nat_eq) q z) (becomes t a)) b) ridge ∙ ap (λ z. unwrap_or (other_end (get (pointwise nat_eq) q (relabelled m r)) z) b) label
-          ∙ ap (λ o. unwrap_or o b) (told_end (get (pointwise nat_eq) q (relabelled m r)) d (relabelled m r) (image_of m a) (image_of m b) (w.d_told (relabelled m r)) (ends_carried c d m r a b (carries c d m w.simplices w.complex h) e))
+      forced m h l = is ∙ ap (λ o. unwrap_or o b) (forced_end c d p q t r a b w e k m h l)
 
 -- ---- the walk goes on
 pub same_test : (s : List ℕ) → pointwise nat_eq s s ≡ true
 same_test s = same_is s s ∙ same_itself s
 
 pub goes_itself : (c d : List (List ℕ)) (w : Walk) → GoesOn c d w w
-goes_itself c d w = record { images = extends_itself c d w.images; seen = λ t h. h; waiting = λ t i. i; reached = λ t h k. absurd (false_at _ k h); added = λ t i. inl i; work = refl }
+goes_itself c d w = record { images = extends_itself c d w.images; seen = λ t h. h; waiting = λ t i. i; reached = λ t h k. absurd (false_at _ k h); added = λ t i. inl i; work = omega arith; apart = λ h. h }
 
 pub goes_further : (c d : List (List ℕ)) (w n l : Walk) → GoesOn c d w n → GoesOn c d n l → GoesOn c d w l
 goes_further c d w n l x y = record {
@@ -119,10 +140,18 @@ goes_further c d w n l x y = record {
     | inl j ↦ elim (x.added t j) [ inl k ↦ inl k | inr k ↦ inr (k.0, y.seen t k.1) ]
     | inr k ↦ inr k
   ];
-  work = y.work ∙ x.work;
+  work = let a = x.work in let b = y.work in omega arith;
+  apart = λ h e. none_before c d w.images n.images x.images (y.apart (λ k. none_later c d w.images n.images x.images (x.apart h k)) e);
 }
 
--- a facet that is taken from the unseen ones
+-- a facet that was not reached is
+pub now_seen : (w n : Walk) (f : List ℕ) → ((q : List ℕ) → contains (pointwise nat_eq) n.seen q ≡ cond (pointwise nat_eq f q) true (contains (pointwise nat_eq) w.seen q)) → (q : List ℕ) → is_unseen n q ≡ cond (pointwise nat_eq f q) false (is_unseen w q)
+now_seen w n f g q = ap not (g q) ∙ turned (pointwise nat_eq f q) (contains (pointwise nat_eq) w.seen q)
+  where
+    turned : (v u : Bool) → not (cond v true u) ≡ cond v false (not u)
+    turned true u = refl
+    turned false u = refl
+
 pub taken_out : (w n : Walk) (f t : List ℕ) → ((q : List ℕ) → is_unseen n q ≡ cond (pointwise nat_eq f q) false (is_unseen w q)) → is_unseen w t ≡ false → is_unseen n t ≡ false
 taken_out w n f t g h = g t ∙ ap (cond (pointwise nat_eq f t) false) h ∙ cond_same (pointwise nat_eq f t)
   where
@@ -133,9 +162,39 @@ taken_out w n f t g h = g t ∙ ap (cond (pointwise nat_eq f t) false) h ∙ con
 pub out_now : (w n : Walk) (f : List ℕ) → ((q : List ℕ) → is_unseen n q ≡ cond (pointwise nat_eq f q) false (is_unseen w q)) → is_unseen n f ≡ false
 out_now w n f g = g f ∙ ap (λ v. cond v false (is_unseen w f)) (same_test f)
 
-pub reach_new : {R : Type 0} (c d : List (List ℕ)) (p q : HashMap (List ℕ) (ℕ × ℕ) R) (w n : Walk) (r f : List ℕ) (a b : ℕ) (removed : Bool) → AreWays c d p q → AreEnds c r a b → IsKnown w.images (a ∷ r) → Extends c d w.images n.images → IsSome (get nat_eq n.images b)
-    → f ≡ union r (b ∷ []) → ((t : List ℕ) → is_unseen n t ≡ cond (pointwise nat_eq f t) false (is_unseen w t)) → n.waiting.items ≡ w.waiting.items ++ f ∷ [] → hash_set_len n.unseen + cond removed 1 0 ≡ hash_set_len w.unseen → removed ≡ true → GoesOn c d w n
-reach_new c d p q w n r f a b removed ways e k x kb fu g l len was = record {
+fewer : {X : Type 0} (p q : X → Bool) (xs : List X) → ((x : X) → q x ≡ true → p x ≡ true) → length (filter q xs) ≤ length (filter p xs)
+fewer p q [] h = omega arith
+fewer p q (x ∷ xs) h =
+    let k = fewer p q xs h in
+    elim (q x) as (λ v. q x ≡ v → length (cond v (x ∷ filter q xs) (filter q xs)) ≤ length (filter p (x ∷ xs))) [
+      | true ↦ λ e. let g : length (filter p (x ∷ xs)) ≡ suc (length (filter p xs)) = ap (λ v. length (cond v (x ∷ filter p xs) (filter p xs))) (h x e) in omega arith
+      | false ↦ λ e. elim (p x) as (λ v. length (filter q xs) ≤ length (cond v (x ∷ filter p xs) (filter p xs))) [ true ↦ omega arith | false ↦ k ]
+    ] refl
+
+one_fewer : {X : Type 0} (p q : X → Bool) (xs : List X) (y : X) → ((x : X) → q x ≡ true → p x ≡ true) → In y xs → p y ≡ true → q y ≡ false → length (filter q xs) + 1 ≤ length (filter p xs)
+one_fewer p q [] y h i a b = absurd (none y i)
+one_fewer p q (x ∷ xs) y h i a b = elim (cases i) [
+  | inl e ↦
+      let k = fewer p q xs h in
+      let f : length (filter q (x ∷ xs)) ≡ length (filter q xs) = ap (λ v. length (cond v (x ∷ filter q xs) (filter q xs))) (ap q (sym e) ∙ b) in
+      let g : length (filter p (x ∷ xs)) ≡ suc (length (filter p xs)) = ap (λ v. length (cond v (x ∷ filter p xs) (filter p xs))) (ap p (sym e) ∙ a) in
+      omega arith
+  | inr j ↦
+      let k = one_fewer p q xs y h j a b in
+      elim (q x) as (λ v. q x ≡ v → length (cond v (x ∷ filter q xs) (filter q xs)) + 1 ≤ length (filter p (x ∷ xs))) [
+        | true ↦ λ e. let g : length (filter p (x ∷ xs)) ≡ suc (length (filter p xs)) = ap (λ v. length (cond v (x ∷ filter p xs) (filter p xs))) (h x e) in omega arith
+        | false ↦ λ e. elim (p x) as (λ v. length (filter q xs) + 1 ≤ length (cond v (x ∷ filter p xs) (filter p xs))) [ true ↦ omega arith | false ↦ k ]
+      ] refl
+]
+
+still_unseen : (w n : Walk) (f t : List ℕ) → ((q : List ℕ) → is_unseen n q ≡ cond (pointwise nat_eq f q) false (is_unseen w q)) → is_unseen n t ≡ true → is_unseen w t ≡ true
+still_unseen w n f t g h =
+    elim (pointwise nat_eq f t) as (λ v. cond v false (is_unseen w t) ≡ true → is_unseen w t ≡ true) [ true ↦ λ e. cc | false ↦ λ e. e ] (sym (g t) ∙ h)
+
+pub reach_new : {R : Type 0} (c d : List (List ℕ)) (p q : HashMap (List ℕ) (ℕ × ℕ) R) (w n : Walk) (r f : List ℕ) (a b : ℕ) (fresh fits : Bool) → AreWays c d p q → AreEnds c r a b → IsKnown w.images (a ∷ r) → Extends c d w.images n.images → IsSome (get nat_eq n.images b)
+    → f ≡ union r (b ∷ []) → ((t : List ℕ) → is_unseen n t ≡ cond (pointwise nat_eq f t) false (is_unseen w t)) → n.waiting.items ≡ w.waiting.items ++ f ∷ [] → fresh ≡ is_unseen w f → fresh ≡ true
+    → n.fits ≡ (w.fits && fits) → (fits ≡ false → NoneAgrees c d w.images) → GoesOn c d w n
+reach_new c d p q w n r f a b fresh fits ways e k x kb fu g l new was both misfit = record {
   images = x;
   seen = λ t h. taken_out w n f t g h;
   waiting = λ t i. subst (λ y. In t y) (sym l) (in_left t w.waiting.items (f ∷ []) i);
@@ -147,7 +206,12 @@ reach_new c d p q w n r f a b removed ways e k x kb fu g l len was = record {
     | inl j ↦ inl j
     | inr j ↦ elim (cases j) [ inl s ↦ inr (subst (λ z. In z c) (sym (s ∙ facet)) e.1.1, ap (is_unseen n) s ∙ out_now w n f g) | inr o ↦ absurd (none t o) ]
   ];
-  work = let longer = ap length l in let whole = length-append w.waiting.items (f ∷ []) in let less : hash_set_len n.unseen + 1 ≡ hash_set_len w.unseen = ap (λ v. hash_set_len n.unseen + cond v 1 0) (sym was) ∙ len in omega arith;
+  work =
+      let longer = ap length l in
+      let whole = length-append w.waiting.items (f ∷ []) in
+      let less = one_fewer (is_unseen w) (is_unseen n) c f (λ t h. still_unseen w n f t g h) (subst (λ z. In z c) (sym facet) e.1.1) (sym new ∙ was) (out_now w n f g) in
+      omega arith;
+  apart = λ h o. elim (w.fits) as (λ v. w.fits ≡ v → NoneAgrees c d w.images) [ true ↦ λ v. misfit (sym (ap (λ z. z && fits) v) ∙ sym both ∙ o) | false ↦ λ v. h v ] refl;
 }
   where
     facet : f ≡ e.1.0
@@ -159,15 +223,16 @@ reach_new c d p q w n r f a b removed ways e k x kb fu g l len was = record {
       | false ↦ λ h. stays_known c d w.images n.images y x (k y (later (subst (λ z. In y z) e.1.3 (in_without e.1.0 b y i (λ s. false_at (y == b) h (equal_from y b s))))))
     ] refl
 
-pub reach_old : (c d : List (List ℕ)) (w n : Walk) (f : List ℕ) (removed : Bool) → n.images ≡ w.images → n.waiting.items ≡ w.waiting.items → removed ≡ is_unseen w f → removed ≡ false → ((t : List ℕ) → is_unseen n t ≡ cond (pointwise nat_eq f t) false (is_unseen w t))
-    → hash_set_len n.unseen + cond removed 1 0 ≡ hash_set_len w.unseen → GoesOn c d w n
-reach_old c d w n f removed im wa r stays g len = record {
+pub reach_old : (c d : List (List ℕ)) (w n : Walk) (f : List ℕ) (fresh : Bool) → n.images ≡ w.images → n.waiting.items ≡ w.waiting.items → n.fits ≡ w.fits → fresh ≡ is_unseen w f → fresh ≡ false
+    → ((t : List ℕ) → is_unseen n t ≡ cond (pointwise nat_eq f t) false (is_unseen w t)) → GoesOn c d w n
+reach_old c d w n f fresh im wa fi r stays g = record {
   images = subst (λ y. Extends c d w.images y) (sym im) (extends_itself c d w.images);
   seen = λ t h. taken_out w n f t g h;
   waiting = λ t i. subst (λ y. In t y) (sym wa) i;
   reached = λ t h m. absurd (false_at (is_unseen n t) m (unchanged t ∙ h));
   added = λ t i. inl (subst (λ y. In t y) wa i);
-  work = let same = ap length wa in let less : hash_set_len n.unseen + 0 ≡ hash_set_len w.unseen = ap (λ v. hash_set_len n.unseen + cond v 1 0) (sym stays) ∙ len in omega arith;
+  work = let same = ap length wa in let less = fewer (is_unseen w) (is_unseen n) c (λ t h. still_unseen w n f t g h) in omega arith;
+  apart = λ h e. h (sym fi ∙ e);
 }
   where
     unchanged : (t : List ℕ) → is_unseen n t ≡ is_unseen w t
@@ -281,5 +346,5 @@ pub no_length : (l : List (List ℕ)) → length l ≡ 0 → l ≡ []
 no_length [] e = refl
 no_length (x ∷ l) e = absurd (omega arith)
 
-pub shorter : (l m : List (List ℕ)) (f : List ℕ) (n k s : ℕ) → l ≡ m ++ f ∷ [] → n + k ≡ length m + s → n + k < length l + s
+pub shorter : (l m : List (List ℕ)) (f : List ℕ) (n k s : ℕ) → l ≡ m ++ f ∷ [] → n + k ≤ length m + s → n + k < length l + s
 shorter l m f n k s e h = let a = ap length e in let b = length-append m (f ∷ []) in omega arith

@@ -1,6 +1,8 @@
 pub mod Bijections
 pub mod Colours
+pub mod Flags
 pub mod Laws
+pub mod Least
 pub mod Relabelled
 pub mod Ridges
 pub mod Search

@@ -1,15 +1,17 @@
 -- A walk from facet to facet that gives images to labels.
-use Rattle.std.specs.Prelude.{◌≡◌, ℕ, ◌+◌, ◌⊎◌, Bool, true, false, List, length, nat_eq, Some, IsSome, IsTrue}
-use Rattle.std.specs.List.{list_all}
+use Rattle.std.specs.Prelude.{◌≡◌, ℕ, ◌+◌, ◌≤◌, ◌⊎◌, ◌==◌, Bool, true, false, not, List, map, length, nat_eq, if◌then◌else◌, Option, None, Some, IsSome, IsTrue}
+use Rattle.std.specs.List.{list_all, filter}
 use Rattle.std.specs.HashMap.{HashMap, get}
-use Rattle.std.specs.HashSet.{contains, hash_set_len}
+use Rattle.std.specs.HashSet.{contains}
 use Rattle.std.specs.Cmp.Lexicographic.{pointwise}
 use Rattle.simplex.specs.Members.{In}
 use Rattle.simplex.specs.Simplex.{is_label, is_simplex}
 use Rattle.facet_set.specs.Complex.{is_complex}
 use Rattle.facet_set.specs.Connection.{is_closed}
-use Rattle.facet_set.specs.Maps.{image_of}
+use Rattle.facet_set.specs.Flips.{same_facets}
+use Rattle.facet_set.specs.Maps.{image, image_of}
 use Rattle.relabelling.specs.Bijections.{is_map_to}
+use Rattle.relabelling.specs.Relabelled.{becomes}
 use Rattle.relabelling.specs.Ridges.{TellsEnds}
 use Rattle.relabelling.specs.declared.extending.Walk.{Walk}
 
@@ -26,11 +28,19 @@ module _ {S : Type 0} where
   abbrev pub Agrees : HashMap ℕ ℕ S → List (ℕ × ℕ) → Type 0
   Agrees t m = (a b : ℕ) → get nat_eq t a ≡ Some b → image_of m a ≡ b
 
+  -- no bijection that carries c to d has these images
+  abbrev pub NoneAgrees : List (List ℕ) → List (List ℕ) → HashMap ℕ ℕ S → Type 0
+  NoneAgrees c d t = (m : List (ℕ × ℕ)) → IsTrue (is_map_to c d m) → Agrees t m → ⊥
+
   -- the images that more labels get: labels have the images that they had, and each bijection that carries c to d agrees with the new ones where it agrees with the old ones
   pub record Extends (c d : List (List ℕ)) (t n : HashMap ℕ ℕ S) : Type 0 where
     pub kept : (a b : ℕ) → get nat_eq t a ≡ Some b → get nat_eq n a ≡ Some b
     pub labels : AreLabels t → AreLabels n
     pub agrees : (m : List (ℕ × ℕ)) → IsTrue (is_map_to c d m) → Agrees t m → Agrees n m
+
+-- the vertices with their images, where these carry the one complex to the other
+abbrev pub map_of : {S : Type 0} → List (List ℕ) → List (List ℕ) → List ℕ → HashMap ℕ ℕ S → Option (List (ℕ × ℕ))
+map_of c d vs t = let m = map (λ a. (a, becomes t a)) vs in if same_facets (image m c) d then Some m else None
 
 -- c is closed, and the tables tell what lies across from the ridges of c and of d
 pub record AreWays {S : Type 0} (c d : List (List ℕ)) (c_ends d_ends : HashMap (List ℕ) (ℕ × ℕ) S) : Type 0 where
@@ -43,7 +53,16 @@ pub record AreWays {S : Type 0} (c d : List (List ℕ)) (c_ends d_ends : HashMap
 
 -- whether the facet was not reached yet
 abbrev pub is_unseen : Walk → List ℕ → Bool
-is_unseen w t = contains (pointwise nat_eq) w.unseen t
+is_unseen w t = not (contains (pointwise nat_eq) w.seen t)
+
+-- the number of facets that were not reached yet
+abbrev pub unseen_count : List (List ℕ) → Walk → ℕ
+unseen_count c w = length (filter (is_unseen w) c)
+
+-- whether there is an image, and it is the label
+abbrev pub is_that : Option ℕ → ℕ → Bool
+is_that None a = false
+is_that (Some b) a = b == a
 
 -- what a walk keeps as it goes on, and what it adds
 pub record GoesOn (c d : List (List ℕ)) (w n : Walk) : Type 0 where
@@ -52,4 +71,5 @@ pub record GoesOn (c d : List (List ℕ)) (w n : Walk) : Type 0 where
   pub waiting : (t : List ℕ) → In t w.waiting.items → In t n.waiting.items
   pub reached : (t : List ℕ) → is_unseen w t ≡ true → is_unseen n t ≡ false → IsKnown n.images t × In t n.waiting.items
   pub added : (t : List ℕ) → In t n.waiting.items → In t w.waiting.items ⊎ (In t c × (is_unseen n t ≡ false))
-  pub work : length n.waiting.items + hash_set_len n.unseen ≡ length w.waiting.items + hash_set_len w.unseen
+  pub work : length n.waiting.items + unseen_count c n ≤ length w.waiting.items + unseen_count c w
+  pub apart : (w.fits ≡ false → NoneAgrees c d w.images) → n.fits ≡ false → NoneAgrees c d w.images

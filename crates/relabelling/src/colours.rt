@@ -71,9 +71,15 @@ fn mark(colours: &mut HashMap<u32, u64>, label: u32) -> Result<(), Memory>
     Ok(())
 }
 
-/// Tells labels apart by the facets that hold them, in both complexes alike, until no more colours come. False only where no
-/// bijection carries c to d and keeps the colours.
-pub fn refine(alloc: Global, c: &Facets, d: &Facets, colours: &mut Colours) -> Result<bool, Memory>
+/// Tells labels apart by the facets that hold them, in both complexes alike, until no more colours come, or for so many rounds.
+/// False only where no bijection carries c to d and keeps the colours.
+pub fn refine(
+    alloc: Global,
+    c: &Facets,
+    d: &Facets,
+    colours: &mut Colours,
+    rounds: usize,
+) -> Result<bool, Memory>
     ensures kept { OnOk
         result
         (StillKept
@@ -88,7 +94,7 @@ pub fn refine(alloc: Global, c: &Facets, d: &Facets, colours: &mut Colours) -> R
         (λ b. b ≡ false → NoneKeeps c.now d.now (colour colours.old.of_c) (colour colours.old.of_d)) }
 {
     let mut known = 0;
-    for _ in c.as_slice() {
+    for _ in 0..rounds {
         let fits = refine_once(alloc, c, d, colours)?;
         if !fits {
             return Ok(false);

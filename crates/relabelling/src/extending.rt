@@ -1,8 +1,7 @@
 // The bijection with given images of one facet, by a walk from facet to facet.
-ghost use Rattle.std.specs.Prelude.{◌≡◌, ◌∷◌, ℕ, List, true, false, map, length, nat_eq, IfOk, OnOk, IsSome, IsTrue};
+ghost use Rattle.std.specs.Prelude.{◌≡◌, ◌&&◌, ◌∷◌, ℕ, List, true, false, map, length, nat_eq, IfOk, IfSome, IfNone, OnOk, IsSome, IsTrue};
 ghost use Rattle.std.specs.List.{list_all};
 ghost use Rattle.std.specs.HashMap.{get};
-ghost use Rattle.std.specs.HashSet.{contains};
 ghost use Rattle.std.specs.Map.{lookup};
 ghost use Rattle.std.specs.Cmp.Lexicographic.{pointwise};
 ghost use Rattle.simplex.specs.Members.{In};
@@ -15,7 +14,7 @@ ghost use Rattle.facet_set.specs.Maps.{image};
 ghost use Rattle.relabelling.specs.Bijections.{extension};
 ghost use Rattle.relabelling.specs.Relabelled.{becomes};
 ghost use Rattle.relabelling.specs.Ridges.{AreEnds, other_end};
-ghost use Rattle.relabelling.specs.Walks.{AreLabels, AreWays, Extends, GoesOn, IsKnown, is_unseen};
+ghost use Rattle.relabelling.specs.Walks.{AreLabels, AreWays, Extends, GoesOn, IsKnown, NoneAgrees, is_that, is_unseen, map_of};
 
 use crate::relabelled::{image, image_of, with_images, with_label};
 use crate::ridges::{ends, other_end};
@@ -40,8 +39,7 @@ pub fn extend_map(
     requires images { length images.now ≡ length start.now }
     ensures { IfOk result (λ o. o ≡ extension c.now d.now start.now images.now) }
 {
-    let facets = c.as_slice();
-    let targets = d.as_slice();
+    let ways = Ways::new(alloc, c, d)?;
     let vertices = c.vertices()?;
     let target_vertices = d.vertices()?;
     let count = vertices.len();
@@ -52,31 +50,81 @@ pub fn extend_map(
     if !are_labels(images) {
         return Ok(None);
     }
+    extended(alloc, &ways, vertices.as_slice(), start, images)
+}
+
+/// The same by ways that are at hand, where the given images are labels and the two complexes have as many vertices.
+pub fn extended(
+    alloc: Global,
+    ways: &Ways,
+    vertices: &[u32],
+    start: &Simplex,
+    images: &[u32],
+) -> Result<Option<Pairs>, Memory>
+    requires ways { AreWays ways.now.c.now ways.now.d.now ways.now.c_ends ways.now.d_ends }
+    requires strong { IsTrue (is_strong ways.now.c.now) }
+    requires vertices { vertices.now ≡ verts ways.now.c.now }
+    requires vertex_labels { IsTrue (list_all is_label vertices.now) }
+    requires as_many { length (verts ways.now.c.now) ≡ length (verts ways.now.d.now) }
+    requires start { In start.now ways.now.c.now }
+    requires images { length images.now ≡ length start.now }
+    requires labels { IsTrue (list_all is_label images.now) }
+    ensures { IfOk result (λ o. o ≡ extension ways.now.c.now ways.now.d.now start.now images.now) }
+{
     let leading = pairs(alloc, start.labels(), images)?;
     let given = table_of(alloc, &leading)?;
-    let c_ends = ends(alloc, facets)?;
-    let d_ends = ends(alloc, targets)?;
-    let ways = Ways {
-        c,
-        d,
-        c_ends,
-        d_ends,
-    };
-    let table = images_from(alloc, &ways, start, given)?;
-    let list = with_their_images(alloc, vertices.as_slice(), &table)?;
-    if carries(alloc, c, d, &list)? {
+    match images_from(alloc, ways, start, given)? {
+        Some(table) => map_of(alloc, ways, vertices, &table),
+        None => Ok(None),
+    }
+}
+
+// The vertices with their images, where these carry the one complex to the other.
+fn map_of(
+    alloc: Global,
+    ways: &Ways,
+    vertices: &[u32],
+    images: &HashMap<u32, u32>,
+) -> Result<Option<Pairs>, Memory>
+    requires labels { IsTrue (list_all is_label vertices.now) }
+    requires images { AreLabels images.now }
+    ensures { IfOk result (λ o. o ≡ map_of ways.now.c.now ways.now.d.now vertices.now images.now) }
+{
+    let list = with_their_images(alloc, vertices, images)?;
+    if carries(alloc, ways.c, ways.d, &list)? {
         return Ok(Some(Pairs::from_vec(list)));
     }
     Ok(None)
 }
 
-// Two complexes, and for the ridges of each what lies across.
+/// Two complexes, and for the ridges of each what lies across.
 #[derive(Drop)]
-struct Ways<'a> {
-    c: &'a Facets,
-    d: &'a Facets,
+pub struct Ways<'a> {
+    pub c: &'a Facets,
+    pub d: &'a Facets,
     c_ends: HashMap<Simplex, (u32, u32)>,
     d_ends: HashMap<Simplex, (u32, u32)>,
+}
+
+impl<'a> Ways<'a> {
+    /// The ways of a closed complex and another one.
+    pub fn new(alloc: Global, c: &'a Facets, d: &'a Facets) -> Result<Ways<'a>, Memory>
+        requires { IsTrue (is_closed c.now) }
+        ensures ways { IfOk result (λ w. AreWays w.c.now w.d.now w.c_ends w.d_ends) }
+        ensures c { IfOk result (λ w. w.c.now ≡ c.now) }
+        ensures d { IfOk result (λ w. w.d.now ≡ d.now) }
+    {
+        let facets = c.as_slice();
+        let targets = d.as_slice();
+        let c_ends = ends(alloc, facets)?;
+        let d_ends = ends(alloc, targets)?;
+        Ok(Ways {
+            c,
+            d,
+            c_ends,
+            d_ends,
+        })
+    }
 }
 
 // How far a walk from facet to facet has come.
@@ -84,10 +132,12 @@ struct Ways<'a> {
 struct Walk {
     // The images of labels of the facets that it reached.
     images: HashMap<u32, u32>,
-    // The facets that it did not reach yet.
-    unseen: HashSet<Simplex>,
+    // The facets that it reached.
+    seen: HashSet<Simplex>,
     // Reached facets that it goes on from.
     waiting: Vec<Simplex>,
+    // Whether no reached facet was found to have an image that is no facet.
+    fits: bool,
 }
 
 fn are_labels(list: &[u32]) -> bool
@@ -110,44 +160,39 @@ fn table_of(alloc: Global, pairs: &[(u32, u32)]) -> Result<HashMap<u32, u32>, Me
 }
 
 // The images of all vertices of c, as a walk from the facet on leads to them. Each bijection that carries c to d and has the
-// given images has these.
+// given images has these. None only where there is no such bijection.
 fn images_from(
     alloc: Global,
     ways: &Ways,
     start: &Simplex,
     given: HashMap<u32, u32>,
-) -> Result<HashMap<u32, u32>, Memory>
+) -> Result<Option<HashMap<u32, u32>>, Memory>
     requires ways { AreWays ways.now.c.now ways.now.d.now ways.now.c_ends ways.now.d_ends }
     requires strong { IsTrue (is_strong ways.now.c.now) }
     requires start { In start.now ways.now.c.now }
     requires known { IsKnown given start.now }
     requires labels { AreLabels given }
-    ensures extends { IfOk result (λ t. Extends ways.now.c.now ways.now.d.now given t) }
-    ensures known { IfOk result (λ t. IsKnown t (verts ways.now.c.now)) }
+    ensures extends { IfOk result (λ o. IfSome o (λ t. Extends ways.now.c.now ways.now.d.now given t)) }
+    ensures known { IfOk result (λ o. IfSome o (λ t. IsKnown t (verts ways.now.c.now))) }
+    ensures apart { IfOk result (λ o. IfNone o (NoneAgrees ways.now.c.now ways.now.d.now given)) }
 {
-    let mut unseen = set_of(alloc, ways.c.as_slice())?;
-    unseen.remove(start);
+    let mut seen = HashSet::new(alloc);
+    seen.insert(*start)?;
     let mut waiting = Vec::new(alloc);
     waiting.push(*start)?;
     let mut walk = Walk {
         images: given,
-        unseen,
+        seen,
         waiting,
+        fits: true,
     };
     while let Some(facet) = walk.waiting.pop() {
         walk.spread(ways, &facet)?;
+        if !walk.fits {
+            return Ok(None);
+        }
     }
-    Ok(walk.images)
-}
-
-fn set_of(alloc: Global, simplices: &[Simplex]) -> Result<HashSet<Simplex>, Memory>
-    ensures { IfOk result (λ u. (s : List ℕ) → In s simplices.now → contains (pointwise nat_eq) u s ≡ true) }
-{
-    let mut set = HashSet::new(alloc);
-    for s in simplices {
-        set.insert(*s)?;
-    }
-    Ok(set)
+    Ok(Some(walk.images))
 }
 
 impl Walk {
@@ -198,36 +243,55 @@ impl Walk {
         ensures reaches { OnOk result ((u : List ℕ) → In next u → without u next ≡ ridge.now → In u ways.now.c.now → is_unseen self.new u ≡ false) }
     {
         let facet = with_label(ridge, next);
-        if !self.unseen.remove(&facet) {
+        if !self.seen.insert(facet)? {
             return Ok(());
         }
-        give_image(&mut self.images, ways, ridge, label, next)?;
+        let fits = give_image(&mut self.images, ways, ridge, label, next)?;
+        self.fits = both(self.fits, fits);
         self.waiting.push(facet)?;
         Ok(())
     }
 }
 
-// Gives the label `next` an image, where it has none.
+fn both(first: bool, second: bool) -> bool
+    ensures { result ≡ (first && second) }
+{
+    first && second
+}
+
+// Gives the label `next` an image, where it has none. False only where no bijection that carries c to d has these images.
 fn give_image(
     images: &mut HashMap<u32, u32>,
     ways: &Ways,
     ridge: &Simplex,
     label: u32,
     next: u32,
-) -> Result<(), Memory>
+) -> Result<bool, Memory>
     requires ways { AreWays ways.now.c.now ways.now.d.now ways.now.c_ends ways.now.d_ends }
     requires ends { AreEnds ways.now.c.now ridge.now label next }
     requires known { IsKnown images.old (label ∷ ridge.now) }
     requires labels { AreLabels images.old }
     ensures extends { OnOk result (Extends ways.now.c.now ways.now.d.now images.old images.new) }
     ensures known { OnOk result (IsSome (get nat_eq images.new next)) }
+    ensures apart { IfOk result (λ b. b ≡ false → NoneAgrees ways.now.c.now ways.now.d.now images.old) }
 {
-    if images.contains_key(&next) {
-        return Ok(());
+    let image = image_across(images, &ways.d_ends, ridge, label);
+    match images.get(&next).copied() {
+        Some(known) => Ok(is_that(image, known)),
+        None => {
+            images.insert(next, image.unwrap_or(next))?;
+            Ok(image.is_some())
+        }
     }
-    let image = image_across(images, &ways.d_ends, ridge, label).unwrap_or(next);
-    images.insert(next, image)?;
-    Ok(())
+}
+
+fn is_that(image: Option<u32>, label: u32) -> bool
+    ensures { result ≡ is_that image label }
+{
+    match image {
+        Some(image) => image == label,
+        None => false,
+    }
 }
 
 // The label across from the image of the ridge, where the other one is the image of the label.

@@ -3,7 +3,9 @@
 
 mod colours;
 mod extending;
+mod flags;
 pub mod laws;
+mod leading;
 mod least;
 mod relabelled;
 mod ridges;

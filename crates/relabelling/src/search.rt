@@ -137,7 +137,13 @@ fn told(
         of_d,
         settled: false,
     };
-    let fits = refine(alloc, sought.c, sought.d, &mut next)?;
+    let fits = refine(
+        alloc,
+        sought.c,
+        sought.d,
+        &mut next,
+        sought.c.as_slice().len(),
+    )?;
     if !fits {
         return Ok(None);
     }

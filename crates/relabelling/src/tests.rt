@@ -178,3 +178,24 @@ fn paths_of_other_lengths(rt: HostRuntime) -> Result<(), Memory> {
     assert!(rt; first_map(alloc, &c, &d)?.is_none());
     Ok(())
 }
+
+#[test]
+fn the_least_map_of_octahedra(rt: HostRuntime) -> Result<(), Memory> {
+    let alloc = rt.alloc();
+    let c = complex(
+        alloc,
+        &[
+            &[1, 3, 5],
+            &[1, 3, 6],
+            &[1, 4, 5],
+            &[1, 4, 6],
+            &[2, 3, 5],
+            &[2, 3, 6],
+            &[2, 4, 5],
+            &[2, 4, 6],
+        ],
+    )?;
+    let want: [(u32, u32); 6] = [(1, 1), (2, 2), (3, 3), (4, 4), (5, 5), (6, 6)];
+    assert!(rt; is_first_map(alloc, &c, &c, &want)?);
+    Ok(())
+}

@@ -23,8 +23,6 @@ mod run;
 mod shell;
 mod stop;
 mod stream;
-#[cfg(test)]
-mod tests;
 mod transcript;
 mod words;
 

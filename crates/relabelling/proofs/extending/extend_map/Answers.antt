@@ -1,67 +1,44 @@
-use Rattle.std.proofs.Common.{◌∙◌, List, ℕ, ap, length, sym, subst, nat_eq}
-use Rattle.std.specs.Prelude.{is_some}
-use Rattle.std.specs.Map.{lookup}
-use Rattle.std.specs.List.{zip}
-use Rattle.facet_set.specs.Flips.{same_facets}
-use Rattle.facet_set.specs.Maps.{image}
-use Rattle.relabelling.specs.Relabelled.{becomes}
-use Rattle.relabelling.specs.Ridges.{TellsEnds}
-use Rattle.relabelling.proofs.ExtendLaws.{apart_labels, apart_numbers, found_extension, missed_extension, given_known, given_labels, paired, vertices_labels, stands_at}
+use Rattle.std.proofs.Common.{◌≡◌, ◌∙◌, ℕ, List, IfOk, ap, length, sym, subst}
+use Rattle.std.specs.Prelude.{Option}
+use Rattle.std.specs.List.{list_all}
+use Rattle.simplex.specs.Simplex.{is_label, is_simplex}
+use Rattle.facet_set.specs.Complex.{is_complex, verts}
+use Rattle.facet_set.specs.Connection.{is_strong}
+use Rattle.simplex.specs.Members.{In}
+use Rattle.relabelling.specs.Bijections.{extension}
+use Rattle.relabelling.proofs.ExtendLaws.{apart_labels, apart_numbers, stands_at}
 use Rattle.relabelling.proofs.extending.extend_map.Goals as goal
 
 pub returns-then-count-target_count : goal.returns-then-count-target_count
 returns-then-count-target_count c =
-    apart_numbers c.args.c.now c.args.d.now c.args.start.now c.args.images.now c.in_ok-vertices.vertices c.in_ok-target_vertices.target_vertices c.len-count.result c.len-target_count.result c.as_slice-facets.ensures.simplices c.as_slice-facets.ensures.complex c.in_ok-vertices.ensures.value
+    apart_numbers c.args.c.now c.args.d.now c.args.start.now c.args.images.now c.in_ok-vertices.vertices c.in_ok-target_vertices.target_vertices c.len-count.result c.len-target_count.result (ap (list_all is_simplex) (sym c.in_ok-ways.ensures.c) ∙ c.in_ok-ways.ensures.ways.simplices) (ap is_complex (sym c.in_ok-ways.ensures.c) ∙ c.in_ok-ways.ensures.ways.complex) c.in_ok-vertices.ensures.value
     c.in_ok-target_vertices.ensures.value c.len-count.ensures c.len-target_count.ensures c.if-count-target_count.true
 
 pub returns-then-not-are_labels : goal.returns-then-not-are_labels
 returns-then-not-are_labels c =
-    apart_labels c.args.c.now c.args.d.now c.args.start.now c.args.images.now c.are_labels.result c.as_slice-facets.ensures.simplices c.as_slice-facets.ensures.complex c.as_slice-targets.ensures.simplices (stands_at c.args.c.now c.args.start.now c.requires.start) c.are_labels.ensures
+    apart_labels c.args.c.now c.args.d.now c.args.start.now c.args.images.now c.are_labels.result (ap (list_all is_simplex) (sym c.in_ok-ways.ensures.c) ∙ c.in_ok-ways.ensures.ways.simplices) (ap is_complex (sym c.in_ok-ways.ensures.c) ∙ c.in_ok-ways.ensures.ways.complex) (ap (list_all is_simplex) (sym c.in_ok-ways.ensures.d) ∙ c.in_ok-ways.ensures.ways.d_simplices) (stands_at c.args.c.now c.args.start.now c.requires.start) c.are_labels.ensures
     c.if-not-are_labels.true
 
-pub pairs-requires : goal.pairs-requires
-pairs-requires c = c.requires.images ∙ ap length (sym c.labels.ensures.value)
+pub extended-requires-clause-strong : goal.extended-requires-clause-strong
+extended-requires-clause-strong c = ap is_strong c.in_ok-ways.ensures.c ∙ c.requires.strong
 
-pub images_from-requires-clause-ways : goal.images_from-requires-clause-ways
-images_from-requires-clause-ways c = record {
-  simplices = c.as_slice-facets.ensures.simplices;
-  complex = c.as_slice-facets.ensures.complex;
-  closed = c.requires.closed;
-  d_simplices = c.as_slice-targets.ensures.simplices;
-  c_told = subst (λ (l : List (List ℕ)). TellsEnds c.in_ok-c_ends.c_ends l) c.as_slice-facets.ensures.value c.in_ok-c_ends.ensures;
-  d_told = subst (λ (l : List (List ℕ)). TellsEnds c.in_ok-d_ends.d_ends l) c.as_slice-targets.ensures.value c.in_ok-d_ends.ensures;
-}
+pub extended-requires-clause-vertices : goal.extended-requires-clause-vertices
+extended-requires-clause-vertices c = c.as_slice.ensures ∙ c.in_ok-vertices.ensures.value ∙ ap verts (sym c.in_ok-ways.ensures.c)
 
-pub images_from-requires-clause-start : goal.images_from-requires-clause-start
-images_from-requires-clause-start c = stands_at c.args.c.now c.args.start.now c.requires.start
+pub extended-requires-clause-vertex_labels : goal.extended-requires-clause-vertex_labels
+extended-requires-clause-vertex_labels c = ap (list_all is_label) c.as_slice.ensures ∙ c.in_ok-vertices.ensures.labels
 
-pub images_from-requires-clause-known : goal.images_from-requires-clause-known
-images_from-requires-clause-known c = λ a i.
-    ap is_some (c.in_ok-given.ensures a ∙ ap (lookup (nat_eq a)) (c.deref.ensures.value ∙ c.in_ok-leading.ensures ∙ ap (λ l. zip l c.args.images.now) c.labels.ensures.value)) ∙ given_known c.args.start.now c.args.images.now a c.requires.images i
+pub extended-requires-clause-as_many : goal.extended-requires-clause-as_many
+extended-requires-clause-as_many c =
+    ap (λ l. length (verts l)) c.in_ok-ways.ensures.c ∙ ap length (sym c.in_ok-vertices.ensures.value) ∙ sym c.len-count.ensures ∙ c.if-count-target_count.false ∙ c.len-target_count.ensures ∙ ap length c.in_ok-target_vertices.ensures.value ∙ ap (λ l. length (verts l)) (sym c.in_ok-ways.ensures.d)
 
-pub images_from-requires-clause-labels : goal.images_from-requires-clause-labels
-images_from-requires-clause-labels c = λ a b e.
-    given_labels c.args.start.now c.args.images.now a b (sym c.are_labels.ensures ∙ c.if-not-are_labels.false)
-    (sym (c.in_ok-given.ensures a ∙ ap (lookup (nat_eq a)) (c.deref.ensures.value ∙ c.in_ok-leading.ensures ∙ ap (λ l. zip l c.args.images.now) c.labels.ensures.value)) ∙ e)
+pub extended-requires-clause-start : goal.extended-requires-clause-start
+extended-requires-clause-start c = subst (λ l. In c.args.start.now l) (sym c.in_ok-ways.ensures.c) (stands_at c.args.c.now c.args.start.now c.requires.start)
 
-pub carries-requires : goal.carries-requires
-carries-requires c =
-    vertices_labels c.in_ok-table.table c.in_ok-vertices.vertices c.deref-2.result.now
-    (c.in_ok-table.ensures.extends.labels (λ a b e.
-    given_labels c.args.start.now c.args.images.now a b (sym c.are_labels.ensures ∙ c.if-not-are_labels.false)
-    (sym (c.in_ok-given.ensures a ∙ ap (lookup (nat_eq a)) (c.deref.ensures.value ∙ c.in_ok-leading.ensures ∙ ap (λ l. zip l c.args.images.now) c.labels.ensures.value)) ∙ e)))
-    c.in_ok-vertices.ensures.labels (c.deref-2.ensures.value ∙ c.in_ok-list.ensures ∙ ap (paired (becomes c.in_ok-table.table)) c.as_slice.ensures)
-
-pub returns-then-branch : goal.returns-then-branch
-returns-then-branch c =
-    found_extension c.args.c.now c.args.d.now c.args.start.now c.args.images.now c.in_ok-given.given c.in_ok-table.table c.as_slice-facets.ensures.simplices c.as_slice-facets.ensures.complex (stands_at c.args.c.now c.args.start.now c.requires.start) c.requires.images
-    (λ a. c.in_ok-given.ensures a ∙ ap (lookup (nat_eq a)) (c.deref.ensures.value ∙ c.in_ok-leading.ensures ∙ ap (λ l. zip l c.args.images.now) c.labels.ensures.value)) c.in_ok-table.ensures.extends c.in_ok-table.ensures.known c.from_vec.result c.in_ok-carries.field-0
-    (c.from_vec.ensures ∙ c.in_ok-list.ensures ∙ ap (paired (becomes c.in_ok-table.table)) (c.as_slice.ensures ∙ c.in_ok-vertices.ensures.value))
-    (ap length (sym c.in_ok-vertices.ensures.value) ∙ sym c.len-count.ensures ∙ c.if-count-target_count.false ∙ c.len-target_count.ensures ∙ ap length c.in_ok-target_vertices.ensures.value)
-    (c.in_ok-carries.ensures ∙ ap (λ m. same_facets (image m c.args.c.now) c.args.d.now) (c.deref-2.ensures.value ∙ sym c.from_vec.ensures)) c.if-branch.true
+pub extended-requires-clause-labels : goal.extended-requires-clause-labels
+extended-requires-clause-labels c = sym c.are_labels.ensures ∙ c.if-not-are_labels.false
 
 pub returns : goal.returns
 returns c =
-    missed_extension c.args.c.now c.args.d.now c.args.start.now c.args.images.now c.in_ok-given.given c.in_ok-table.table c.as_slice-facets.ensures.simplices c.as_slice-facets.ensures.complex (stands_at c.args.c.now c.args.start.now c.requires.start) c.requires.images
-    (λ a. c.in_ok-given.ensures a ∙ ap (lookup (nat_eq a)) (c.deref.ensures.value ∙ c.in_ok-leading.ensures ∙ ap (λ l. zip l c.args.images.now) c.labels.ensures.value)) c.in_ok-table.ensures.extends c.in_ok-table.ensures.known c.deref-2.result.now c.in_ok-carries.field-0
-    (c.deref-2.ensures.value ∙ c.in_ok-list.ensures ∙ ap (paired (becomes c.in_ok-table.table)) (c.as_slice.ensures ∙ c.in_ok-vertices.ensures.value)) c.in_ok-carries.ensures c.if-branch.false
+    subst (λ (x : Option (List (ℕ × ℕ))). IfOk c.extended.result (λ o. o ≡ x))
+    (ap (λ l. extension l c.in_ok-ways.ways.d.now c.args.start.now c.args.images.now) c.in_ok-ways.ensures.c ∙ ap (λ l. extension c.args.c.now l c.args.start.now c.args.images.now) c.in_ok-ways.ensures.d) c.extended.ensures

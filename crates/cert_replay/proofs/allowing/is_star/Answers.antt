@@ -1,8 +1,0 @@
-use Rattle.std.proofs.Common.{◌∙◌}
-use Rattle.cert_replay.proofs.StarLaws.{counted_star}
-use Rattle.cert_replay.proofs.allowing.is_star.Goals as goal
-
-pub returns : goal.returns
-returns c =
-    c.is_counted_star.ensures ∙ counted_star c.args.facets.now c.args.flip.now.a c.args.flip.now.b c.requires.simplices c.requires.complex
-    c.are_simplices.ensures.a c.are_simplices.ensures.b c.requires.pure c.requires.sizes c.requires.apart
