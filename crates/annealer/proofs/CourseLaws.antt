@@ -2,17 +2,18 @@
 use Rattle.std.proofs.Common.{◌≡◌, ℕ, suc, ◌+◌, ◌-◌, ◌≤◌, ◌<◌, Bool, true, false, cond, List, [], ◌∷◌, ◌++◌, length, refl, sym, ap, ◌∙◌, subst, ◌⊎◌, inl, inr, arith, Option, Some, None, append-nil, append_assoc, length-append}
 use Rattle.std.specs.Bool.{IsTrue}
 use Rattle.std.specs.Option.{IsSome}
-use Rattle.std.specs.List.{list_all, zip}
+use Rattle.std.specs.List.{list_all}
 use Rattle.simplex.specs.declared.flip.Flip.{Flip}
 use Rattle.simplex.specs.FirstFailing.{first_failing}
 use Rattle.simplex.specs.Simplex.{is_simplex, label_limit}
 use Rattle.simplex.proofs.Filled.{short_of}
-use Rattle.simplex.proofs.InOrderLaws.{and_left, and_right, and_both}
+use Rattle.simplex.proofs.InOrderLaws.{and_both}
 use Rattle.simplex.proofs.Members.{In, first, all_at}
+use Rattle.simplex.proofs.Decided.{none_fails, all_pass}
 use Rattle.facet_set.specs.Complex.{verts}
 use Rattle.facet_set.specs.Numbers.{size, is_pure}
 use Rattle.facet_set.specs.Flips.{allowed, flip, flip_parts, is_simplex_boundary, after, goes}
-use Rattle.facet_set.proofs.FlipLaws.{parts_of, flips_back_lem, pure_at}
+use Rattle.facet_set.proofs.FlipLaws.{parts_of, flips_back_lem, pure_at, after-append, goes-append}
 use Rattle.flip_rules.specs.declared.flip_fault.FlipFault.TheVariants.{NotPure, Size, Overlap, Star, Present}
 use Rattle.flip_rules.specs.Tests.{flip_tests}
 use Rattle.flip_table.specs.Session.{Standing}
@@ -25,27 +26,7 @@ use Rattle.annealer.proofs.PickExists.{always_picks_lem, verts_after}
 
 -- ---- lists of flips
 
-pub after_append : (c : List (List ℕ)) (l m : List Flip) → after c (l ++ m) ≡ after (after c l) m
-after_append c [] m = refl
-after_append c (f ∷ l) m = after_append (flip c f.a f.b) l m
-
-pub goes_append : (c : List (List ℕ)) (l m : List Flip) → goes c l ≡ true → goes (after c l) m ≡ true → goes c (l ++ m) ≡ true
-goes_append c [] m h k = k
-goes_append c (f ∷ l) m h k = and_both _ _ (and_left _ _ h) (goes_append (flip c f.a f.b) l m (and_right (allowed c f.a f.b) _ h) k)
-
 -- ---- tests
-
-none_fails : {F : Type 0} (ps : List Bool) (fs : List F) → length ps ≡ length fs → first_failing (zip ps fs) ≡ None → list_all (λ p. p) ps ≡ true
-none_fails [] fs n h = refl
-none_fails (p ∷ ps) [] n h = absurd (omega arith)
-none_fails (true ∷ ps) (f ∷ fs) n h = none_fails ps fs (omega arith) h
-none_fails (false ∷ ps) (f ∷ fs) n h = cc
-
-all_pass : {F : Type 0} (ps : List Bool) (fs : List F) → list_all (λ p. p) ps ≡ true → first_failing (zip ps fs) ≡ None
-all_pass [] fs h = refl
-all_pass (p ∷ ps) [] h = refl
-all_pass (true ∷ ps) (f ∷ fs) h = all_pass ps fs h
-all_pass (false ∷ ps) (f ∷ fs) h = cc
 
 pub passes_allowed : (c : List (List ℕ)) (m : Flip) → first_failing (flip_tests c m) ≡ None → IsTrue (allowed c m.a m.b)
 passes_allowed c m h = none_fails (flip_parts c m.a m.b) (NotPure ∷ Size ∷ Overlap ∷ Star ∷ Present ∷ []) refl h
@@ -147,13 +128,13 @@ module _ (c : List (List ℕ)) (whole : List Flip) (budget left : ℕ) (x y : Co
   new_is = ap (λ (s : Standing). s.present) session_is
 
   next_is : next ≡ after c journal
-  next_is = ap (λ d. flip d t.flip.a t.flip.b) present_is ∙ sym (after_append c x.session.journal (t.flip ∷ []))
+  next_is = ap (λ d. flip d t.flip.a t.flip.b) present_is ∙ sym (after-append c x.session.journal (t.flip ∷ []))
 
   standing_is : y.session ≡ standing_after c y.session.journal
   standing_is = session_is ∙ ap (λ (d : List (List ℕ)). record { present = d; journal = journal; staged = None }) next_is ∙ ap (standing_after c) (sym journal_is)
 
   goes_is : goes c y.session.journal ≡ true
-  goes_is = ap (goes c) journal_is ∙ goes_append c x.session.journal (t.flip ∷ []) h.goes (and_both _ _ (ap (λ d. allowed d t.flip.a t.flip.b) (sym present_is) ∙ t.allowed) refl)
+  goes_is = ap (goes c) journal_is ∙ goes-append c x.session.journal (t.flip ∷ []) h.goes (and_both _ _ (ap (λ d. allowed d t.flip.a t.flip.b) (sym present_is) ∙ t.allowed) refl)
 
   rest_is : y.session.journal ++ flips_by y.session.present y.heat (words_from left y.words) ≡ whole
   rest_is =

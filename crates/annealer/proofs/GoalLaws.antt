@@ -8,6 +8,7 @@ use Rattle.std.proofs.lemmas.Bool.Decides.{nat_tests}
 use Rattle.std.proofs.lemmas.List.Folds.{position_or_len_push}
 use Rattle.simplex.specs.declared.flip.Flip.{Flip}
 use Rattle.simplex.proofs.Members.{In, first, later, cases, none}
+use Rattle.simplex.proofs.Decided.{equal_itself}
 use Rattle.facet_set.specs.Flips.{flip, after}
 use Rattle.annealer.specs.Walk.{facet_counts, least, place_of_least}
 
@@ -100,9 +101,6 @@ module _ (p : ℕ → Bool) where
 
       more : position_or_len p xs < length xs → 1 + position_or_len p xs < suc (length xs)
       more h = omega (arith, h)
-
-equal_itself : (n : ℕ) → (n == n) ≡ true
-equal_itself n = grind (arith, nat_tests)
 
 place_more : (n : ℕ) (ns : List ℕ) (k : ℕ) → place_of_least ((n ∷ ns) ++ k ∷ []) ≡ cond (ltb k (least (n ∷ ns))) (length (n ∷ ns)) (place_of_least (n ∷ ns))
 place_more n ns k =

@@ -1,5 +1,5 @@
 -- While a label is free, there is a pick, and a flip makes at most one vertex.
-use Rattle.std.proofs.Common.{◌≡◌, ℕ, zero, suc, ◌+◌, ◌≤◌, ◌<◌, Bool, true, false, not, cond, ◌&&◌, List, [], ◌∷◌, map, length, refl, sym, ap, ◌∙◌, subst, ◌⊎◌, inl, inr, arith, leb, ltb, eqb, Option, Some, None, append-nil}
+use Rattle.std.proofs.Common.{◌≡◌, ℕ, zero, suc, ◌+◌, ◌≤◌, ◌<◌, Bool, true, false, not, cond, ◌&&◌, List, [], ◌∷◌, map, length, refl, sym, ap, ◌∙◌, subst, ◌⊎◌, inl, inr, arith, leb, ltb, eqb, Some, None, append-nil}
 use Rattle.std.specs.Prelude.{◌==◌, option_map, option_to_list}
 use Rattle.std.specs.Option.{IsSome}
 use Rattle.std.specs.List.{list_all, flat_map}
@@ -22,7 +22,7 @@ use Rattle.facet_set.proofs.FlipLaws.{Parts, pure_at, in_ball, from_ball, allowe
 use Rattle.facet_set.proofs.OptionFlips.{option_members_lem}
 use Rattle.facet_set.proofs.OptionLaws.{in_verts, from_verts}
 use Rattle.facet_set.proofs.VertexLaws.{verts_labels}
-use Rattle.flip_rules.proofs.Counting.{most-union}
+use Rattle.facet_set.proofs.Counting.{most-union}
 use Rattle.annealer.specs.Laws.{AlwaysPicks}
 use Rattle.annealer.specs.Walk.{first_filled, best_options, mixed_options, other_options, chosen, pick}
 use Rattle.annealer.proofs.PickLaws.{chosen_some}
@@ -84,7 +84,7 @@ missing_most n (v ∷ vs) = by (n == v) (missing_most (n + 1) vs)
     by true r = omega arith
     by false r = omega arith
 
-missing_low : (n : ℕ) (vs : List ℕ) → n ≤ least_missing n vs
+pub missing_low : (n : ℕ) (vs : List ℕ) → n ≤ least_missing n vs
 missing_low n [] = omega arith
 missing_low n (v ∷ vs) = by (n == v) (missing_low (n + 1) vs)
   where

@@ -11,13 +11,14 @@ use Rattle.simplex.proofs.InOrderLaws.{and_left, and_right, and_both}
 use Rattle.facet_set.specs.Complex.{is_complex, verts}
 use Rattle.facet_set.specs.Numbers.{size, is_pure}
 use Rattle.facet_set.specs.Flips.{allowed, flip, is_simplex_boundary, after, goes}
+use Rattle.facet_set.proofs.FlipLaws.{after-append}
 use Rattle.flip_rules.specs.Tests.{flip_tests}
 use Rattle.flip_table.specs.Session.{Standing, committed, staged_with}
 use Rattle.seeded_words.specs.Words.{words_from}
 use Rattle.annealer.specs.Course.{IsOnWalk, IsAtEnd}
 use Rattle.annealer.specs.Walk.{standing_after, flips_by, facet_counts, place_of_least, has_met, to_goal}
 use Rattle.annealer.specs.declared.course.Course.{Course}
-use Rattle.annealer.proofs.CourseLaws.{after_append, allowed_passes}
+use Rattle.annealer.proofs.CourseLaws.{allowed_passes}
 
 -- ---- the first flips of a list
 
@@ -58,7 +59,7 @@ again_passes c ms i s m h l e f =
 pub again_next : (c : List (List ℕ)) (ms : List Flip) (i : ℕ) (s t : Standing) (m : Flip) → i < length ms → m ≡ get_or ms i m → s ≡ standing_after c (take i ms) → t ≡ committed (staged_with m s) → t ≡ standing_after c (take (i + 1) ms)
 again_next c ms i s t m l e f g =
     g ∙ ap (λ (s : Standing). committed (staged_with m s)) f
-    ∙ ap (λ (d : List (List ℕ)). record { present = d; journal = take i ms ++ m ∷ []; staged = None }) (sym (after_append c (take i ms) (m ∷ [])))
+    ∙ ap (λ (d : List (List ℕ)). record { present = d; journal = take i ms ++ m ∷ []; staged = None }) (sym (after-append c (take i ms) (m ∷ [])))
     ∙ ap (standing_after c) whole
   where
     at : {X : Type 0} (xs : List X) (k : ℕ) (x : X) → k < length xs → x ≡ get_or xs k x → take k xs ++ x ∷ [] ≡ take (suc k) xs

@@ -2,14 +2,11 @@
 ghost use Rattle.std.specs.Prelude.{◌≡◌, ◌*◌, ◌+◌, ◌^◌, ◌<◌, length, nat_le, IfOk};
 ghost use Rattle.simplex.specs.Simplex.{label_limit};
 ghost use Rattle.facet_set.specs.Complex.{verts};
-ghost use Rattle.facet_set.specs.Numbers.{size};
-ghost use Rattle.annealer.specs.Budget.{is_in_budget, most_facets, walk_limit};
+ghost use Rattle.facet_set.specs.Numbers.{size, weight_limit};
+ghost use Rattle.annealer.specs.Budget.{is_in_budget, most_facets};
 
-use facet_set::Facets;
+use facet_set::{Facets, WEIGHT_LIMIT};
 use simplex::{LABEL_LIMIT, Memory};
-
-// The greatest weight of a complex on a walk.
-const WALK_LIMIT: u128 = 8_388_608;
 
 /// Whether a walk of so many flips keeps within its limits: with d the dimension, (facets + d budget) 2^(d+1) is at most
 /// 8,388,608, and vertices + budget at most 1,000,000. The limits are own. It takes memory to count the vertices.
@@ -21,9 +18,9 @@ pub fn is_in_budget(c: &Facets, budget: u64) -> Result<bool, Memory>
 
 // Whether no complex on the walk can be too heavy.
 fn has_room(c: &Facets, budget: u64) -> bool
-    ensures { result ≡ nat_le (most_facets c.now budget * 2 ^ size c.now) walk_limit }
+    ensures { result ≡ nat_le (most_facets c.now budget * 2 ^ size c.now) weight_limit }
 {
-    most_facets(c, budget) * weight_of_one(c) as u128 <= WALK_LIMIT
+    most_facets(c, budget) * weight_of_one(c) as u128 <= WEIGHT_LIMIT as u128
 }
 
 // The most facets of a complex on the walk.

@@ -5,8 +5,6 @@ mod budget;
 mod course;
 mod laws;
 mod picking;
-#[cfg(test)]
-mod tests;
 mod walking;
 
 pub use budget::is_in_budget;

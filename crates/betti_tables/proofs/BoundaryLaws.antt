@@ -2,7 +2,7 @@
 use Rattle.std.proofs.Common.{◌≡◌, ℕ, ◌+◌, ◌<◌, ◌≤◌, Bool, true, false, ◌&&◌, cond, eqb, List, [], ◌∷◌, map, refl, sym, ap, ◌∙◌, subst, ◌⊎◌, inl, inr, arith}
 use mathlib.Core.Bool.{true≢false}
 use Rattle.std.specs.Prelude.{not}
-use Rattle.std.specs.Ordering.{is_eq, is_lt, nat_cmp}
+use Rattle.std.specs.Ordering.{is_eq, is_lt}
 use Rattle.std.specs.declared.cmp.Ordering.{Ordering}
 use Rattle.std.specs.declared.cmp.Ordering.TheVariants.{Less, Equal, Greater}
 use Rattle.std.specs.FinMap.{nat_cmp-IsAntisymmetric}
@@ -14,41 +14,20 @@ use Rattle.simplex.specs.InOrder.{is_member, is_increasing}
 use Rattle.simplex.specs.Simplex.{is_simplex, is_same, simplex_cmp, without}
 use Rattle.simplex.proofs.InOrderLaws.{and_left, and_right, and_both}
 use Rattle.simplex.proofs.Members.{In, first, later, cases, none, any_from, any_at, all_at, in_map, from_map, is_member_from, is_member_at, same_sets}
-use Rattle.simplex.proofs.SimplexLaws.{is_increasing-filter, in_without, from_without}
+use Rattle.simplex.proofs.SimplexLaws.{in_without, from_without}
+use Rattle.simplex.proofs.Decided.{agree, false_from, eqb_equal, eqb_apart}
 use Rattle.facet_set.specs.Numbers.{face_count, faces_of_size}
-use Rattle.facet_set.proofs.ComplexLaws.{exact, is_set, same_from, same_itself}
+use Rattle.facet_set.proofs.ComplexLaws.{exact, is_set, same_from, same_itself, without_set}
 use Rattle.gf2_rank.specs.Span.{rank}
-use Rattle.gf2_rank.proofs.SpanLaws.{odd}
+use Rattle.gf2_rank.proofs.SpanLaws.{odd, odd_some}
 use Rattle.gf2_rank.proofs.KernelLaws.{parity, parity-odd, parity-same, AreRelations, kernel}
 use Rattle.betti_tables.specs.Ranks.{column, rank_at}
 use Rattle.betti_tables.proofs.FaceLaws.{column_faces, rising_faces, set_of}
-
-false_from : (v : Bool) → (v ≡ true → ⊥) → v ≡ false
-false_from true f = absurd (f refl)
-false_from false f = refl
-
-agree : (v w : Bool) → (v ≡ true → w ≡ true) → (w ≡ true → v ≡ true) → v ≡ w
-agree true w f g = sym (f refl)
-agree false true f g = g refl
-agree false false f g = refl
-
-odd_some : (a b : Bool) → odd a b ≡ true → (a ≡ true) ⊎ (b ≡ true)
-odd_some true b h = inl refl
-odd_some false b h = inr h
 
 not_both : (r : Ordering) → is_lt r ≡ true → is_eq r ≡ true → ⊥
 not_both Less h e = true≢false (sym e)
 not_both Equal h e = true≢false (sym h)
 not_both Greater h e = true≢false (sym h)
-
-equal_at : (a b : ℕ) → eqb a b ≡ true → a ≡ b
-equal_at a b e = grind (arith, nat_tests)
-
-apart : (a b : ℕ) → eqb a b ≡ false → a ≡ b → ⊥
-apart a b e h = true≢false (sym (equal_from a b h) ∙ e)
-  where
-    equal_from : (x y : ℕ) → x ≡ y → eqb x y ≡ true
-    equal_from x y k = grind (arith, nat_tests)
 
 parity_none : (p : List ℕ → Bool) (xs : List (List ℕ)) → ((x : List ℕ) → In x xs → p x ≡ false) → parity p xs ≡ false
 parity_none p [] f = refl
@@ -74,9 +53,6 @@ member_at x xs h = is_member_at nat_list_cmp_total exact x xs h
 member_from : (x : List ℕ) (xs : List (List ℕ)) → In x xs → is_member simplex_cmp x xs ≡ true
 member_from x xs i = is_member_from nat_list_cmp_total exact x xs i
 
-up_without : (s : List ℕ) (a : ℕ) → is_set s ≡ true → is_set (without s a) ≡ true
-up_without s a h = is_increasing-filter nat_cmp (λ b. not (eqb a b)) s h
-
 turned_in : (s : List ℕ) (a b x : ℕ) → In x (without (without s a) b) → In x (without (without s b) a)
 turned_in s a b x i =
     let r = from_without (without s a) b x i in
@@ -85,7 +61,7 @@ turned_in s a b x i =
 
 turned : (s : List ℕ) (a b : ℕ) → is_set s ≡ true → without (without s a) b ≡ without (without s b) a
 turned s a b h =
-    same_sets nat_cmp_total nat_cmp-IsAntisymmetric (without (without s a) b) (without (without s b) a) (up_without (without s a) b (up_without s a h)) (up_without (without s b) a (up_without s b h))
+    same_sets nat_cmp_total nat_cmp-IsAntisymmetric (without (without s a) b) (without (without s b) a) (without_set (without s a) b (without_set s a h)) (without_set (without s b) a (without_set s b h))
     (λ x i. turned_in s a b x i) (λ x i. turned_in s b a x i)
 
 -- whether q has one label less than x, and x one less than s
@@ -128,10 +104,10 @@ between_at s q x h =
 one_of_two : (s q : List ℕ) (a b e : ℕ) → Two s q a b → In e s → (In e q → ⊥) → (e ≡ a) ⊎ (e ≡ b)
 one_of_two s q a b e h i out =
     elim (eqb e a) as (λ v. eqb e a ≡ v → (e ≡ a) ⊎ (e ≡ b)) [
-      | true ↦ λ k. inl (equal_at e a k)
+      | true ↦ λ k. inl (eqb_equal e a k)
       | false ↦ λ k. elim (eqb e b) as (λ v. eqb e b ≡ v → (e ≡ a) ⊎ (e ≡ b)) [
-        | true ↦ λ l. inr (equal_at e b l)
-        | false ↦ λ l. absurd (out (subst (In e) (sym h.same) (in_without (without s a) b e (in_without s a e i (apart e a k)) (apart e b l))))
+        | true ↦ λ l. inr (eqb_equal e b l)
+        | false ↦ λ l. absurd (out (subst (In e) (sym h.same) (in_without (without s a) b e (in_without s a e i (eqb_apart e a k)) (eqb_apart e b l))))
       ] refl
     ] refl
 
@@ -217,6 +193,6 @@ ranks_fit_lem c k h =
     let both = fit c (k + 1) h in
     let high = rank_above c (k + 1) (omega arith) in
     elim (eqb k 0) as (λ v. eqb k 0 ≡ v → rank_at c k + rank_at c (k + 1) ≤ face_count c (k + 1)) [
-      | true ↦ λ e. let low = ap (rank_at c) (equal_at k 0 e) ∙ rank_zero c in omega (arith, both, high, low)
+      | true ↦ λ e. let low = ap (rank_at c) (eqb_equal k 0 e) ∙ rank_zero c in omega (arith, both, high, low)
       | false ↦ λ e. let some : 0 < k = grind (arith, nat_tests) in let low = rank_above c k some in omega (arith, both, high, low)
     ] refl

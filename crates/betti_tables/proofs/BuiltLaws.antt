@@ -8,6 +8,7 @@ use Rattle.gf2_rank.specs.Laws.{IsNamed}
 use Rattle.gf2_rank.specs.Matrix.{Matrix, cols, column as rows_of, zero_matrix}
 use Rattle.betti_tables.specs.Boundary.{IsWritten}
 use Rattle.betti_tables.specs.Ranks.{column}
+use Rattle.betti_tables.proofs.NameLaws.{same_read}
 
 pub record IsBuilt (rows simplices : List (List ℕ)) (i : ℕ) (m : Matrix) : Type 0 where
   pub rows_are : m.rows ≡ length rows
@@ -28,11 +29,6 @@ built_none rows simplices m e =
       done = λ k d h. absurd (omega arith);
       left = λ k h. empty_at (length simplices) k;
     })
-
-same_read : (xs : List (List ℕ)) (j : ℕ) (d e : List ℕ) → j < length xs → get_or xs j d ≡ get_or xs j e
-same_read [] j d e h = absurd (omega arith)
-same_read (x ∷ xs) zero d e h = refl
-same_read (x ∷ xs) (suc j) d e h = same_read xs j d e (omega arith)
 
 pub built_more : (rows simplices : List (List ℕ)) (i : ℕ) (s : List ℕ) (now new : Matrix) → i < length simplices → s ≡ get_or simplices i s → IsWritten rows (column s) i now new
     → IsBuilt rows simplices i now → IsBuilt rows simplices (i + 1) new

@@ -7,19 +7,16 @@ use Rattle.std.specs.Cmp.Lexicographic.{nat_list_cmp_total}
 use Rattle.std.proofs.lemmas.Bool.Decides.{nat_tests}
 use Rattle.simplex.specs.InOrder.{is_increasing}
 use Rattle.simplex.specs.Simplex.{is_simplex, is_within, simplex_cmp, subsets, without}
-use Rattle.simplex.proofs.Filled.{rising_of}
 use Rattle.simplex.proofs.InOrderLaws.{is_increasing-in_order}
-use Rattle.simplex.proofs.Members.{In, first, later, cases, none, all_at, all_from, in_filter, from_filter, in_either, from_map, from_flat_map}
+use Rattle.simplex.proofs.Members.{In, first, later, cases, none, in_filter, from_filter, in_either, from_map, from_flat_map}
 use Rattle.simplex.proofs.SimplexLaws.{is_increasing-filter, in_within, from_without}
+use Rattle.simplex.proofs.Decided.{eqb_equal}
 use Rattle.facet_set.specs.Complex.{faces}
 use Rattle.facet_set.specs.Numbers.{faces_of_size, size}
-use Rattle.facet_set.proofs.ComplexLaws.{is_set, from_faces, in_faces, face_below, from_simplices}
+use Rattle.facet_set.proofs.ComplexLaws.{is_set, from_faces, in_faces, face_below, from_simplices, sets_of}
 use Rattle.facet_set.proofs.FlipLaws.{length-without}
 use Rattle.betti_tables.specs.Boundary.{HasRows}
 use Rattle.betti_tables.specs.Ranks.{column}
-
-equal_at : (a b : ℕ) → eqb a b ≡ true → a ≡ b
-equal_at a b e = grind (arith, nat_tests)
 
 equal_from : (a b : ℕ) → a ≡ b → eqb a b ≡ true
 equal_from a b e = grind (arith, nat_tests)
@@ -27,11 +24,8 @@ equal_from a b e = grind (arith, nat_tests)
 unequal : (a b : ℕ) → a < b → eqb a b ≡ false
 unequal a b h = grind (arith, nat_tests)
 
-pub sets_of : (c : List (List ℕ)) → list_all is_simplex c ≡ true → list_all is_set c ≡ true
-sets_of c h = all_from is_set c (λ s i. rising_of s (all_at is_simplex s c h i))
-
 pub of_size : (c : List (List ℕ)) (n : ℕ) (s : List ℕ) → In s (faces_of_size c n) → In s (faces c) × (length s ≡ n)
-of_size c n s i = let r = from_filter (λ t. length t == n) s (faces c) i in (r.0, equal_at (length s) n r.1)
+of_size c n s i = let r = from_filter (λ t. length t == n) s (faces c) i in (r.0, eqb_equal (length s) n r.1)
 
 pub in_size : (c : List (List ℕ)) (n : ℕ) (s : List ℕ) → In s (faces c) → length s ≡ n → In s (faces_of_size c n)
 in_size c n s i e = in_filter (λ t. length t == n) s (faces c) i (equal_from (length s) n e)

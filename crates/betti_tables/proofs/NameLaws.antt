@@ -1,30 +1,20 @@
 -- Sets of places in an increasing list of names.
-use Rattle.std.proofs.Common.{◌≡◌, ℕ, zero, suc, ◌+◌, ◌<◌, ◌≤◌, Bool, true, false, ◌||◌, List, [], ◌∷◌, ◌++◌, length, get_or, map, take, refl, sym, ap, ◌∙◌, subst, ◌⊎◌, inl, inr, arith}
-use mathlib.Core.Bool.{true≢false}
-use Rattle.std.specs.Ordering.{is_eq, is_lt, nat_cmp, eq_by_cmp}
-use Rattle.std.specs.declared.cmp.Ordering.{Ordering}
-use Rattle.std.specs.declared.cmp.Ordering.TheVariants.{Less, Equal, Greater}
+use Rattle.std.proofs.Common.{◌≡◌, ℕ, zero, suc, ◌+◌, ◌<◌, ◌≤◌, true, ◌||◌, List, [], ◌∷◌, ◌++◌, length, get_or, map, take, refl, sym, ap, ◌∙◌, subst, ◌⊎◌, inl, inr, arith}
+use Rattle.std.specs.Ordering.{is_lt, nat_cmp, eq_by_cmp}
 use Rattle.std.specs.FinMap.{nat_cmp-IsAntisymmetric}
 use Rattle.std.specs.List.{list_all, Contains}
-use Rattle.std.specs.Cmp.Lexicographic.{nat_list_cmp_total}
 use Rattle.std.proofs.lemmas.Cmp.{nat_cmp_total}
 use Rattle.std.proofs.lemmas.List.{get_or-set_same, get_or-set_other, length-set, map_push, take_more, take_all}
 use Rattle.simplex.specs.InOrder.{is_member, is_increasing, put}
 use Rattle.simplex.specs.Simplex.{simplex_cmp, without}
-use Rattle.simplex.proofs.InOrderLaws.{and_left, and_right, is_member-put, itself}
+use Rattle.simplex.proofs.InOrderLaws.{and_left, and_right, is_member-put, itself, equal_is}
 use Rattle.simplex.proofs.Members.{In, first, later, cases, none, all_at, in_left, in_right, in_either, contains_in, in_contains, in_map, is_member_from, is_member_at}
+use Rattle.simplex.proofs.Decided.{or_cases, or_right}
+use Rattle.facet_set.proofs.FacetLaws.{below_apart}
 use Rattle.gf2_rank.specs.Laws.{IsNamed}
 use Rattle.gf2_rank.specs.Matrix.{Matrix, cols, column as rows_of, with_one}
 use Rattle.betti_tables.specs.Boundary.{HasRows, IsWritten}
 use Rattle.betti_tables.specs.Ranks.{column}
-
-not_same : (x y : List ℕ) → is_lt (simplex_cmp x y) ≡ true → x ≡ y → ⊥
-not_same x y h e = by (simplex_cmp x y) h (ap (λ z. is_eq (simplex_cmp x z)) (sym e) ∙ itself nat_list_cmp_total x)
-  where
-    by : (r : Ordering) → is_lt r ≡ true → is_eq r ≡ true → ⊥
-    by Less l k = true≢false (sym k)
-    by Equal l k = true≢false (sym l)
-    by Greater l k = true≢false (sym l)
 
 in_at : {X : Type 0} (xs : List X) (k : ℕ) (d : X) → k < length xs → In (get_or xs k d) xs
 in_at [] k d h = absurd (omega arith)
@@ -36,35 +26,22 @@ one_place : (names : List (List ℕ)) (j k : ℕ) (d e : List ℕ) → is_increa
 one_place [] j k d e h l m f = absurd (omega arith)
 one_place (x ∷ xs) zero zero d e h l m f = refl
 one_place (x ∷ xs) zero (suc k) d e h l m f =
-    absurd (not_same x (get_or xs k e) (all_at (λ y. is_lt (simplex_cmp x y)) (get_or xs k e) xs (and_left _ _ h) (in_at xs k e (omega arith))) f)
+    absurd (below_apart x (get_or xs k e) (all_at (λ y. is_lt (simplex_cmp x y)) (get_or xs k e) xs (and_left _ _ h) (in_at xs k e (omega arith))) f)
 one_place (x ∷ xs) (suc j) zero d e h l m f =
-    absurd (not_same x (get_or xs j d) (all_at (λ y. is_lt (simplex_cmp x y)) (get_or xs j d) xs (and_left _ _ h) (in_at xs j d (omega arith))) (sym f))
+    absurd (below_apart x (get_or xs j d) (all_at (λ y. is_lt (simplex_cmp x y)) (get_or xs j d) xs (and_left _ _ h) (in_at xs j d (omega arith))) (sym f))
 one_place (x ∷ xs) (suc j) (suc k) d e h l m f = ap suc (one_place xs j k d e (and_right (list_all (λ y. is_lt (simplex_cmp x y)) xs) _ h) (omega arith) (omega arith) f)
 
-same_read : (xs : List (List ℕ)) (j : ℕ) (d e : List ℕ) → j < length xs → get_or xs j d ≡ get_or xs j e
+pub same_read : (xs : List (List ℕ)) (j : ℕ) (d e : List ℕ) → j < length xs → get_or xs j d ≡ get_or xs j e
 same_read [] j d e h = absurd (omega arith)
 same_read (x ∷ xs) zero d e h = refl
 same_read (x ∷ xs) (suc j) d e h = same_read xs j d e (omega arith)
-
-or_cases : (a b : Bool) → (a || b) ≡ true → (a ≡ true) ⊎ (b ≡ true)
-or_cases true b h = inl refl
-or_cases false b h = inr h
-
-or_right : (a b : Bool) → b ≡ true → (a || b) ≡ true
-or_right true b h = refl
-or_right false b h = h
-
-tie : (r : Ordering) → is_eq r ≡ true → r ≡ Equal
-tie Less h = cc
-tie Equal h = refl
-tie Greater h = cc
 
 -- the members of a set with a number put in
 from_put : (k : ℕ) (s : List ℕ) (j : ℕ) → Contains (put nat_cmp k s) j → (j ≡ k) ⊎ Contains s j
 from_put k s j h =
     let m = is_member_from nat_cmp_total nat_cmp-IsAntisymmetric j (put nat_cmp k s) (contains_in (put nat_cmp k s) j h) in
     elim (or_cases (eq_by_cmp nat_cmp j k) (is_member nat_cmp j s) (sym (is_member-put nat_cmp_total j k s) ∙ m)) [
-      | inl e ↦ inl (nat_cmp-IsAntisymmetric j k (tie _ e))
+      | inl e ↦ inl (nat_cmp-IsAntisymmetric j k (equal_is _ e))
       | inr e ↦ inr (in_contains s j (is_member_at nat_cmp_total nat_cmp-IsAntisymmetric j s e))
     ]
 

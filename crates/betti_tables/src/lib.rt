@@ -6,8 +6,6 @@ mod betti_fault;
 mod boundary;
 mod laws;
 mod rank_table;
-#[cfg(test)]
-mod tests;
 
 pub use betti::Betti;
 pub use betti_fault::BettiFault;

@@ -17,11 +17,11 @@ use Rattle.simplex.specs.Simplex.{has, is_within, simplex_cmp}
 use Rattle.simplex.proofs.InOrderLaws.{and_left, and_right, and_both}
 use Rattle.simplex.proofs.Members.{In, first, later, cases, at_head, none, any_from, all_at, all_from, in_filter, from_filter, in_map, from_map, same_sets}
 use Rattle.simplex.proofs.SimplexLaws.{has_at, has_from, within_in, is_increasing-filter}
+use Rattle.simplex.proofs.Decided.{agree, false_from, equal_at, equal_from}
 use Rattle.facet_set.specs.Complex.{is_face, facets_with}
+use Rattle.facet_set.specs.Star.{lies_in_join, is_counted_star}
 use Rattle.facet_set.proofs.ComplexLaws.{exact, face_at, face_from}
 use Rattle.cert_replay.specs.Corners.{corner_cmp, AreCorners, corners_at}
-use Rattle.cert_replay.specs.Star.{lies_in_join, is_counted_star}
-use Rattle.cert_replay.proofs.Decided.{agree, false_from, number, numbers}
 
 abbrev pub Corner : Type 0
 Corner = ℕ × List ℕ
@@ -94,8 +94,8 @@ out_of k xs h i = true≢false (sym (any_from (λ x. is_eq (corner_cmp k x)) k x
 -- ---- the pairs between two bounds
 pub at_label : (v : ℕ) (p : Corner) → (is_le (corner_cmp (v, []) p) && not (is_le (corner_cmp (v + 1, []) p))) ≡ (p.0 == v)
 at_label v p = agree _ _
-    (λ h. numbers p.0 v (let l = low v p.1 (and_left _ _ h) in let u = high (v + 1) p.1 (and_right (is_le (corner_cmp (v, []) p)) _ h) in omega arith))
-    (λ h. let e = number p.0 v h in and_both _ _ (low_from v p.1 (omega arith)) (high_from (v + 1) p.1 (omega arith)))
+    (λ h. equal_from p.0 v (let l = low v p.1 (and_left _ _ h) in let u = high (v + 1) p.1 (and_right (is_le (corner_cmp (v, []) p)) _ h) in omega arith))
+    (λ h. let e = equal_at p.0 v h in and_both _ _ (low_from v p.1 (omega arith)) (high_from (v + 1) p.1 (omega arith)))
   where
     least : (s : List ℕ) → is_le (simplex_cmp [] s) ≡ true
     least [] = refl
@@ -167,14 +167,14 @@ pub at_is : (c : List (List ℕ)) (xs : List Corner) (v : ℕ) → is_increasing
     → map (λ (p : Corner). p.1) (corners_at v xs) ≡ filter (λ s. has s v) c
 at_is c xs v upc up are =
     same_sets nat_list_cmp_total exact (map (λ (p : Corner). p.1) (corners_at v xs)) (filter (λ s. has s v) c)
-    (firsts_same v (corners_at v xs) (is_increasing-filter corner_cmp (λ p. p.0 == v) xs up) (λ p j. number p.0 v (from_filter (λ q. q.0 == v) p xs j).1))
+    (firsts_same v (corners_at v xs) (is_increasing-filter corner_cmp (λ p. p.0 == v) xs up) (λ p j. equal_at p.0 v (from_filter (λ q. q.0 == v) p xs j).1))
     (is_increasing-filter simplex_cmp (λ s. has s v) c upc)
     (λ s j. let r = from_map (λ (p : Corner). p.1) s (corners_at v xs) j in
     let m = from_filter (λ p. p.0 == v) r.0 xs r.1 in
     let q = are.from_corner r.0 m.0 in
-    subst (λ t. In t (filter (λ s. has s v) c)) (sym r.2) (in_filter (λ s. has s v) r.0.1 c q.0 (has_from r.0.1 v (subst (λ n. In n r.0.1) (number r.0.0 v m.1) q.1))))
+    subst (λ t. In t (filter (λ s. has s v) c)) (sym r.2) (in_filter (λ s. has s v) r.0.1 c q.0 (has_from r.0.1 v (subst (λ n. In n r.0.1) (equal_at r.0.0 v m.1) q.1))))
     (λ s j. let q = from_filter (λ s. has s v) s c j in
-    in_map (λ (p : Corner). p.1) (v, s) (corners_at v xs) (in_filter (λ p. p.0 == v) (v, s) xs (are.to_corner (v, s) q.0 (has_at s v q.1)) (numbers v v refl)))
+    in_map (λ (p : Corner). p.1) (v, s) (corners_at v xs) (in_filter (λ p. p.0 == v) (v, s) xs (are.to_corner (v, s) q.0 (has_at s v q.1)) (equal_from v v refl)))
 
 -- ---- what the facets at one of its labels tell of a simplex
 pub with_at : (c : List (List ℕ)) (v : ℕ) (a : List ℕ) → In v a → facets_with (filter (λ s. has s v) c) a ≡ facets_with c a

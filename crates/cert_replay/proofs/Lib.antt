@@ -1,10 +1,4 @@
-pub mod BallLaws
 pub mod CornerLaws
-pub mod Counting
-pub mod Decided
-pub mod LinkLaws
 pub mod MovedLaws
-pub mod SetLaws
-pub mod StarLaws
 pub mod TableLaws
 pub mod TestLaws

@@ -5,11 +5,11 @@ use Rattle.std.proofs.Math.Seq.{drop-cons}
 use Rattle.std.proofs.lemmas.Bool.Decides.{nat_tests}
 use Rattle.simplex.specs.declared.flip.Flip.{Flip}
 use Rattle.simplex.proofs.InOrderLaws.{and_both}
+use Rattle.simplex.proofs.Decided.{false_from}
 use Rattle.facet_set.specs.Numbers.{size}
 use Rattle.facet_set.specs.Flips.{allowed, flip, goes, after}
 use Rattle.facet_set.proofs.FlipLaws.{parts_of}
 use Rattle.flip_certificate.specs.Valid.{flips_that_go, is_pure_from}
-use Rattle.cert_replay.proofs.Decided.{false_from}
 
 -- the flips of the list go exactly where the rest of them, after i, go from d, and both lead to one complex
 pub record Reaches (c d : List (List ℕ)) (ms rest : List Flip) (i : ℕ) : Type 0 where

@@ -12,19 +12,19 @@ use Rattle.simplex.specs.Simplex.{is_label, is_simplex, is_within, is_disjoint, 
 use Rattle.simplex.proofs.Filled.{labels_of, simplex_from}
 use Rattle.std.proofs.lemmas.Cmp.{nat_list_cmp_total}
 use Rattle.simplex.proofs.InOrderLaws.{and_left, and_right, is_increasing-in_order}
-use Rattle.simplex.proofs.Members.{In, same_sets, first, cases, none, at_head, in_left, in_right, in_either, all_at, all_from, in_filter, from_filter, in_map, from_map}
+use Rattle.simplex.proofs.Members.{In, same_sets, cases, none, at_head, in_left, in_right, in_either, all_at, all_from, in_filter, from_filter, in_map, from_map}
 use Rattle.simplex.proofs.SimplexLaws.{from_union, from_without, is_increasing-union}
+use Rattle.simplex.proofs.Decided.{false_from}
 use Rattle.facet_set.specs.Complex.{generated, is_complex, is_face, facets_with}
 use Rattle.facet_set.specs.Numbers.{is_pure, size}
 use Rattle.facet_set.specs.Flips.{allowed, ball, flip, same_facets}
 use Rattle.facet_set.proofs.ComplexLaws.{exact, is_set, in_simplices, from_simplices, generated_same, generated_again}
-use Rattle.facet_set.proofs.FlipLaws.{Parts, parts_of, pure_at, from_flip, in_flip, from_ball, flips_back_lem, complex_after, small}
+use Rattle.facet_set.proofs.FlipLaws.{Parts, parts_of, pure_at, from_flip, in_flip, from_ball, flips_back_lem, complex_after, small, some_label}
 use Rattle.flip_certificate.specs.Valid.{is_pure_from}
+use Rattle.facet_set.specs.Star.{is_counted_star}
+use Rattle.facet_set.proofs.StarLaws.{counted_star}
 use Rattle.cert_replay.specs.Corners.{corner_cmp, facets_of, AreCorners, HasMore, HasLess, HasAll, HasNone, IsTable}
 use Rattle.cert_replay.proofs.CornerLaws.{Corner, from_insert, to_insert, from_remove, to_remove, other_corner}
-use Rattle.cert_replay.specs.Star.{is_counted_star}
-use Rattle.cert_replay.proofs.Decided.{false_from}
-use Rattle.cert_replay.proofs.StarLaws.{counted_star}
 
 -- ---- one more member of a front
 module _ {X : Type 0} where
@@ -116,10 +116,6 @@ table_of c old keys e all = record {
 }
 
 -- ---- the facets of a table
-some_label : (s : List ℕ) → 0 < length s → (x : ℕ) × In x s
-some_label [] h = absurd (omega arith)
-some_label (x ∷ s) h = (x, first)
-
 pub facets_are : (c : List (List ℕ)) (n : ℕ) (keys : List Corner) → IsTable c n keys → facets_of keys ≡ c
 facets_are c n keys t =
     same_sets nat_list_cmp_total exact (facets_of keys) c (is_increasing-in_order nat_list_cmp_total (map (λ (p : Corner). p.1) keys)) (and_left _ _ t.complex)

@@ -12,11 +12,11 @@ use Rattle.std.proofs.lemmas.Cmp.{nat_list_cmp_total, lists_total}
 use Rattle.simplex.proofs.InOrderLaws.{itself, and_left, and_right, and_both}
 use Rattle.std.specs.List.{list_all}
 use Rattle.simplex.specs.Simplex.{is_label}
+use Rattle.simplex.proofs.Decided.{agree, false_from, equal_at}
 use Rattle.flip_certificate.specs.Count.{stopped}
 use Rattle.flip_certificate.specs.Lines.{is_pair}
 use Rattle.flip_certificate.specs.declared.block.Block.{Block}
 use Rattle.flip_certificate.specs.Valid.{Faults, block_tests, sphere_tests, vertex_link, flips_that_go, first_difference}
-use Rattle.cert_replay.proofs.Decided.{agree, false_from, number}
 
 split_at : (bs : List Block) (i : ℕ) (b d : Block) → i < length bs → b ≡ get_or bs i d → drop i bs ≡ b ∷ drop (i + 1) bs
 split_at bs i b d h e = drop-cons bs i d h ∙ ap (λ n. get_or bs i d ∷ drop n bs) (sym (add-one i)) ∙ ap (λ x. x ∷ drop (i + 1) bs) (sym e)
@@ -80,7 +80,7 @@ step_of xs ys i h k = λ j. first_difference (drop_at xs h j) (drop_at ys k j)
     drop_at zs l = drop-cons zs i 0 l ∙ ap (λ n. get_or zs i 0 ∷ drop n zs) (sym (add-one i))
 
 pub differ_here : (xs ys : List ℕ) (i : ℕ) → i < length xs → i < length ys → (get_or xs i 0 ≡ get_or ys i 0 → ⊥) → first_difference (drop i xs) (drop i ys) ≡ 1
-differ_here xs ys i h k f = step_of xs ys i h k ∙ ap (λ v. cond v (1 + first_difference (drop (i + 1) xs) (drop (i + 1) ys)) 1) (false_from (get_or xs i 0 == get_or ys i 0) (λ e. f (number _ _ e)))
+differ_here xs ys i h k f = step_of xs ys i h k ∙ ap (λ v. cond v (1 + first_difference (drop (i + 1) xs) (drop (i + 1) ys)) 1) (false_from (get_or xs i 0 == get_or ys i 0) (λ e. f (equal_at _ _ e)))
 
 past : (xs : List ℕ) (n : ℕ) → length xs ≤ n → drop n xs ≡ []
 past [] zero h = refl

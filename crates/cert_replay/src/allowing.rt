@@ -2,7 +2,7 @@
 ghost use Rattle.std.specs.Prelude.{◌≡◌, ◌+◌, ◌&&◌, ◌==◌, IsTrue, length, nat_lt};
 ghost use Rattle.simplex.specs.Simplex.{is_simplex};
 ghost use Rattle.facet_set.specs.Complex.{is_face};
-ghost use Rattle.cert_replay.specs.Star.{lies_in_join, is_counted_star};
+ghost use Rattle.facet_set.specs.Star.{lies_in_join, is_counted_star};
 
 use simplex::{Flip, Simplex};
 

@@ -7,12 +7,9 @@ mod corners;
 mod links;
 mod maps;
 mod moving;
-mod relabelled;
 mod replay_fault;
 mod replaying;
 mod table;
-#[cfg(test)]
-mod tests;
 
 pub use replay_fault::ReplayFault;
 pub use replaying::replay;

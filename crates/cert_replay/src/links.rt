@@ -2,10 +2,9 @@
 ghost use Rattle.std.specs.Prelude.{◌≡◌, IfOk, IsTrue};
 ghost use Rattle.simplex.specs.Simplex.{is_label};
 ghost use Rattle.flip_certificate.specs.Valid.{vertex_link};
-ghost use Rattle.cert_replay.specs.Pieces.{link_pieces};
+ghost use Rattle.facet_set.specs.Parts.{link_pieces};
 
-use crate::relabelled::point;
-use facet_set::Facets;
+use facet_set::{Facets, point};
 use simplex::{Memory, Simplex};
 use std::alloc::{AllocError, Global};
 

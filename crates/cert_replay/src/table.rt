@@ -1,7 +1,7 @@
 ghost use Rattle.std.specs.Prelude.{◌≡◌, ◌<◌, IfOk, IsTrue, length};
 ghost use Rattle.facet_set.specs.Complex.{is_face};
+ghost use Rattle.facet_set.specs.Star.{is_counted_star};
 ghost use Rattle.cert_replay.specs.Corners.{facets_of, AreCorners};
-ghost use Rattle.cert_replay.specs.Star.{is_counted_star};
 
 use crate::allowing::{are_simplices, has_flip_size, is_counted_star, lies_in_one};
 use crate::balls::push_ball;

@@ -11,19 +11,15 @@ use Rattle.simplex.proofs.Filled.{rising_of}
 use Rattle.simplex.proofs.InOrderLaws.{and_right, and_both}
 use Rattle.simplex.proofs.Members.{In, all_at, is_member_at}
 use Rattle.simplex.proofs.SimplexLaws.{within_itself, within_trans, same_labels}
+use Rattle.simplex.proofs.Decided.{agree, not_true, not_from}
 use Rattle.facet_set.specs.Complex.{generated, is_face, is_proper_face, is_maximal_in, faces, stands_in}
 use Rattle.facet_set.specs.Facets.{IsFacets}
 use Rattle.facet_set.specs.Parts.{deletion}
-use Rattle.facet_set.proofs.ComplexLaws.{exact, is_set, same_from, same_itself, maximal_at, face_at, face_from, face_below, from_faces, is_face-generated, is_face-faces_where}
+use Rattle.facet_set.proofs.ComplexLaws.{exact, is_set, same_from, same_itself, maximal_at, face_at, face_from, face_below, from_faces, is_face-generated, is_face-faces_where, sets_of}
 use Rattle.facet_set.proofs.GeneratedLaws.{filter_same, if_ok}
-use Rattle.local_parts.proofs.AroundLaws.{agree, off, lacks, sets}
 use Rattle.collapse_moves.specs.Collapses.{partner, is_free, collapse, drop_face}
 use Rattle.collapse_moves.specs.Laws.{CollapseFaces, DropFaces, AddFaces}
 use Rattle.collapse_moves.proofs.FreeLaws.{partner_above, partner_only}
-
-false_from : (v : Bool) → (v ≡ true → ⊥) → v ≡ false
-false_from true f = absurd (f refl)
-false_from false f = refl
 
 -- the simplex and those in which it lies properly are those that it lies in
 not_over : (s b : List ℕ) → (not (is_same b s) && not (is_proper_face s b)) ≡ not (is_within s b)
@@ -49,7 +45,7 @@ facet_over c f b h m u k w =
     let r = face_at c b k in
     let over : is_within f r.0 ≡ true = within_trans f b r.0 w r.2 in
     let same : f ≡ r.0 = same_from f r.0 (by (is_within f r.0) (is_same f r.0) over (maximal_at c f r.0 top r.1)) in
-    same_labels b f u (all_at is_set f c (sets c h.simplices) i) (subst (λ t. is_within b t ≡ true) (sym same) r.2) w
+    same_labels b f u (all_at is_set f c (sets_of c h.simplices) i) (subst (λ t. is_within b t ≡ true) (sym same) r.2) w
   where
     by : (v w : Bool) → v ≡ true → (v && not w) ≡ false → w ≡ true
     by true true a b = refl
@@ -65,12 +61,12 @@ not_facet c f b h m u k =
 pub drop_is : (c : List (List ℕ)) (f : List ℕ) → IsFacets c → stands_in c f ≡ true → drop_face c f ≡ deletion c f
 drop_is c f h m =
     ap generated (filter_same (λ b. not (is_same b f)) (λ b. not (is_within f b)) (faces c) (λ b i.
-    let p = from_faces c b (sets c h.simplices) i in
+    let p = from_faces c b (sets_of c h.simplices) i in
     ap not (not_facet c f b h m p.0 p.1)))
 
 pub deletion_faces : (c : List (List ℕ)) (a b : List ℕ) → list_all is_set c ≡ true → is_set b ≡ true → is_face (deletion c a) b ≡ (is_face c b && not (is_within a b))
 deletion_faces c a b h k =
-    is_face-faces_where (λ s. not (is_within a s)) c h (λ s t p q w e. lacks (is_within a s) (λ u. true≢false (sym (within_trans a s t u w) ∙ off (is_within a t) e))) b k
+    is_face-faces_where (λ s. not (is_within a s)) c h (λ s t p q w e. not_from (is_within a s) (λ u. true≢false (sym (within_trans a s t u w) ∙ not_true (is_within a t) e))) b k
 
 pub collapsed_is : {E : Type 0} (c : List (List ℕ)) (s : List ℕ) (r : Result (List (List ℕ)) E) → IfOk r (λ d. d ≡ deletion c s) → IfOk r (λ d. d ≡ collapse c s)
 collapsed_is c s r h = if_ok (λ d. d ≡ deletion c s) (λ d. d ≡ collapse c s) r (λ d e. e ∙ sym (collapse_is c s)) h
@@ -101,8 +97,8 @@ neither false v w x f = refl
 
 pub collapse_faces_lem : CollapseFaces
 collapse_faces_lem c s t b h e k =
-    ap (λ d. is_face d b) (collapse_is c s) ∙ deletion_faces c s b (sets c h) (rising_of b k)
-    ∙ neither (is_face c b) (is_within s b) (is_same b s) (is_same b t) (λ f. beside c s t b (sets c h) e (rising_of b k) f)
+    ap (λ d. is_face d b) (collapse_is c s) ∙ deletion_faces c s b (sets_of c h) (rising_of b k)
+    ∙ neither (is_face c b) (is_within s b) (is_same b s) (is_same b t) (λ f. beside c s t b (sets_of c h) e (rising_of b k) f)
 
 -- ---- the faces after a facet goes or comes
 same_and : (u v w : Bool) → (u ≡ true → v ≡ w) → (u && not v) ≡ (u && not w)
@@ -112,7 +108,7 @@ same_and false v w f = refl
 pub drop_faces_lem : DropFaces
 drop_faces_lem c f b h x m k =
     let facets : IsFacets c = record { simplices = h; complex = x } in
-    ap (λ d. is_face d b) (drop_is c f facets m) ∙ deletion_faces c f b (sets c h) (rising_of b k)
+    ap (λ d. is_face d b) (drop_is c f facets m) ∙ deletion_faces c f b (sets_of c h) (rising_of b k)
     ∙ same_and (is_face c b) (is_within f b) (is_same b f) (λ i. sym (not_facet c f b facets m (rising_of b k) i))
 
 or_swap : (v w : Bool) → (v || w) ≡ (w || v)
@@ -122,14 +118,14 @@ or_swap false true = refl
 or_swap false false = refl
 
 pub add_faces_lem : AddFaces
-add_faces_lem c f b h k = is_face-generated (f ∷ c) b (and_both _ _ (rising_of f k) (sets c h)) ∙ or_swap (is_within b f) (is_face c b)
+add_faces_lem c f b h k = is_face-generated (f ∷ c) b (and_both _ _ (rising_of f k) (sets_of c h)) ∙ or_swap (is_within b f) (is_face c b)
 
 -- ---- faces that a collapse or a dropping asks for
 pub free_face : (c : List (List ℕ)) (s : List ℕ) → IsFacets c → IsTrue (is_free c s) → is_face c s ≡ true
 free_face c s h e = by (partner c s) refl (and_right (not (length s == 0)) _ e)
   where
     by : (o : Option (List ℕ)) → partner c s ≡ o → is_some o ≡ true → is_face c s ≡ true
-    by (Some t) f g = let a = partner_above c s t (sets c h.simplices) f in face_below c s t a.within a.face
+    by (Some t) f g = let a = partner_above c s t (sets_of c h.simplices) f in face_below c s t a.within a.face
     by None f g = absurd (true≢false (sym g))
 
 pub facet_face : (c : List (List ℕ)) (f : List ℕ) → IsTrue (stands_in c f) → is_face c f ≡ true

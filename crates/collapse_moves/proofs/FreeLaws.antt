@@ -4,11 +4,9 @@ use mathlib.Core.Bool.{true≢false}
 use Rattle.std.specs.Prelude.{◌==◌, Option, Some, None, is_some}
 use Rattle.std.specs.Bool.{IsTrue}
 use Rattle.std.specs.Ordering.{is_lt}
-use Rattle.std.specs.declared.cmp.Ordering.{Ordering}
-use Rattle.std.specs.declared.cmp.Ordering.TheVariants.{Less, Equal, Greater}
 use Rattle.std.specs.List.{list_all, filter, flat_map}
 use Rattle.std.proofs.lemmas.Bool.Decides.{nat_tests}
-use Rattle.std.proofs.lemmas.Cmp.{nat_list_cmp_total, tied_itself}
+use Rattle.std.proofs.lemmas.Cmp.{nat_list_cmp_total}
 use Rattle.simplex.specs.FirstFailing.{first_failing}
 use Rattle.simplex.specs.InOrder.{is_increasing}
 use Rattle.simplex.specs.Simplex.{is_simplex, is_within, is_same, subsets, simplex_cmp}
@@ -16,10 +14,11 @@ use Rattle.simplex.proofs.Filled.{rising_of}
 use Rattle.simplex.proofs.InOrderLaws.{and_left, and_right, and_both, is_increasing-in_order}
 use Rattle.simplex.proofs.Members.{In, first, later, cases, at_head, none, all_at, in_filter, from_filter, same_sets}
 use Rattle.simplex.proofs.SimplexLaws.{within_itself, within_trans, within_length, within_same, is_increasing-filter}
+use Rattle.simplex.proofs.Decided.{not_true, not_from, equal_at, equal_from}
 use Rattle.facet_set.specs.Complex.{is_complex, is_face, is_proper_face, is_maximal_in, faces, facets_with}
 use Rattle.facet_set.specs.Facets.{IsFacets}
-use Rattle.facet_set.proofs.ComplexLaws.{exact, is_set, same_from, same_itself, maximal_at, face_at, face_from, from_faces, in_faces}
-use Rattle.local_parts.proofs.AroundLaws.{off, lacks, sets}
+use Rattle.facet_set.proofs.ComplexLaws.{exact, is_set, same_from, same_itself, maximal_at, face_at, face_from, from_faces, in_faces, sets_of}
+use Rattle.facet_set.proofs.FacetLaws.{below_apart}
 use Rattle.local_parts.proofs.SkeletonLaws.{between}
 use Rattle.collapse_moves.specs.declared.free_fault.FreeFault.TheVariants.{NotFace, NotFree}
 use Rattle.collapse_moves.specs.declared.holder.Holder.{Holder}
@@ -28,12 +27,6 @@ use Rattle.collapse_moves.specs.Collapses.{only, partner, is_free, free_tests}
 use Rattle.collapse_moves.specs.Holders.{holder_of}
 use Rattle.collapse_moves.specs.Laws.{PartnerIsFacet}
 use Rattle.collapse_moves.proofs.HolderLaws.{missing_at, one_at, many_at}
-
-number : (x y : ℕ) → (x == y) ≡ true → x ≡ y
-number x y e = grind (arith, nat_tests)
-
-numbers : (x y : ℕ) → x ≡ y → (x == y) ≡ true
-numbers x y e = grind (arith, nat_tests)
 
 -- ---- the only member of a list
 
@@ -67,13 +60,13 @@ pub record IsAbove (c : List (List ℕ)) (s t : List ℕ) : Type 0 where
   pub another : s ≡ t → ⊥
 
 pub in_above : (c : List (List ℕ)) (s t : List ℕ) → list_all is_set c ≡ true → IsAbove c s t → In t (above c s)
-in_above c s t h a = in_filter (is_proper_face s) t (faces c) (in_faces c t h a.set a.face) (and_both _ _ a.within (lacks (is_same s t) (λ e. a.another (same_from s t e))))
+in_above c s t h a = in_filter (is_proper_face s) t (faces c) (in_faces c t h a.set a.face) (and_both _ _ a.within (not_from (is_same s t) (λ e. a.another (same_from s t e))))
 
 pub from_above : (c : List (List ℕ)) (s t : List ℕ) → list_all is_set c ≡ true → In t (above c s) → IsAbove c s t
 from_above c s t h i =
     let q = from_filter (is_proper_face s) t (faces c) i in
     let p = from_faces c t h q.0 in
-    let differ : is_same s t ≡ false = off (is_same s t) (and_right (is_within s t) _ q.1) in
+    let differ : is_same s t ≡ false = not_true (is_same s t) (and_right (is_within s t) _ q.1) in
     record { set = p.0; face = p.1; within = and_left _ _ q.1; another = λ e. true≢false (sym (ap (is_same s) (sym e) ∙ same_itself s) ∙ differ) }
 
 pub partner_above : (c : List (List ℕ)) (s t : List ℕ) → list_all is_set c ≡ true → partner c s ≡ Some t → IsAbove c s t
@@ -168,28 +161,17 @@ module _ (c : List (List ℕ)) (s t : List ℕ) (a : IsAlone c s t) where
       shorter e = omega (arith, e)
 
 -- ---- two facets contain the simplex
-not_below : (x y : List ℕ) → is_lt (simplex_cmp x y) ≡ true → x ≡ y → ⊥
-not_below x y h e = clash (sym (tied_itself nat_list_cmp_total x) ∙ ap (simplex_cmp x) e ∙ less _ h)
-  where
-    less : (r : Ordering) → is_lt r ≡ true → r ≡ Less
-    less Less e = refl
-    less Equal e = cc
-    less Greater e = cc
-
-    clash : Equal ≡ Less → ⊥
-    clash e = cc
-
 -- of two facets none is within the other
 facets_apart : (c : List (List ℕ)) (x y : List ℕ) → is_complex c ≡ true → In x c → In y c → (x ≡ y → ⊥) → is_within x y ≡ true → ⊥
 facets_apart c x y h i j f w =
     let top : is_maximal_in c x ≡ true = all_at (is_maximal_in c) x c (and_right (is_increasing simplex_cmp c) _ h) i in
-    true≢false (sym (and_both _ _ w (lacks (is_same x y) (λ e. f (same_from x y e)))) ∙ maximal_at c x y top j)
+    true≢false (sym (and_both _ _ w (not_from (is_same x y) (λ e. f (same_from x y e)))) ∙ maximal_at c x y top j)
 
 pub two_partners : (c : List (List ℕ)) (s x y : List ℕ) (l : List (List ℕ)) → IsFacets c → facets_with c s ≡ x ∷ y ∷ l → partner c s ≡ None
 two_partners c s x y l h e = only_two (above c s) x y (in_above c s x whole (over x y xf yf differ)) (in_above c s y whole (over y x yf xf (λ g. differ (sym g)))) differ
   where
     whole : list_all is_set c ≡ true
-    whole = sets c h.simplices
+    whole = sets_of c h.simplices
 
     xf : In x c × (is_within s x ≡ true)
     xf = from_filter (is_within s) x c (subst (λ m. In x m) (sym e) first)
@@ -201,7 +183,7 @@ two_partners c s x y l h e = only_two (above c s) x y (in_above c s x whole (ove
     rises = ap (is_increasing simplex_cmp) (sym e) ∙ is_increasing-filter simplex_cmp (is_within s) c (and_left _ _ h.complex)
 
     differ : x ≡ y → ⊥
-    differ = not_below x y (and_left (is_lt (simplex_cmp x y)) _ (and_left _ _ rises))
+    differ = below_apart x y (and_left (is_lt (simplex_cmp x y)) _ (and_left _ _ rises))
 
     over : (u v : List ℕ) → In u c × (is_within s u ≡ true) → In v c × (is_within s v ≡ true) → (u ≡ v → ⊥) → IsAbove c s u
     over u v p q f = record {
@@ -215,7 +197,7 @@ two_partners c s x y l h e = only_two (above c s) x y (in_above c s x whole (ove
 pub partner_is_facet_lem : PartnerIsFacet
 partner_is_facet_lem c s t h x u = (
   λ e. from (facets_with c s) refl e,
-  λ p. one_partner c s t (record { sets = sets c h; simplex = rising_of s u; alone = p.0 }) p.1,
+  λ p. one_partner c s t (record { sets = sets_of c h; simplex = rising_of s u; alone = p.0 }) p.1,
 )
   where
     clash : (o : Option (List ℕ)) → o ≡ Some t → o ≡ None → ⊥
@@ -224,17 +206,17 @@ partner_is_facet_lem c s t h x u = (
 
     only_fits : (w : List ℕ) → facets_with c s ≡ w ∷ [] → partner c s ≡ Some t → (v : Bool) → (length s + 1 == length w) ≡ v → (w ≡ t) × (length s + 1 ≡ length w)
     only_fits w q e true n =
-        let a : IsAlone c s w = record { sets = sets c h; simplex = rising_of s u; alone = q } in
-        let fit = number (length s + 1) (length w) n in
+        let a : IsAlone c s w = record { sets = sets_of c h; simplex = rising_of s u; alone = q } in
+        let fit = equal_at (length s + 1) (length w) n in
         let same : Some w ≡ Some t = sym (one_partner c s w a fit) ∙ e in
         (cc, fit)
     only_fits w q e false n =
-        let a : IsAlone c s w = record { sets = sets c h; simplex = rising_of s u; alone = q } in
-        absurd (clash (partner c s) e (one_alone c s w a (λ m. true≢false (sym (numbers (length s + 1) (length w) m) ∙ n))))
+        let a : IsAlone c s w = record { sets = sets_of c h; simplex = rising_of s u; alone = q } in
+        absurd (clash (partner c s) e (one_alone c s w a (λ m. true≢false (sym (equal_from (length s + 1) (length w) m) ∙ n))))
 
     from : (l : List (List ℕ)) → facets_with c s ≡ l → partner c s ≡ Some t → (facets_with c s ≡ t ∷ []) × (length s + 1 ≡ length t)
     from [] q e =
-        let a = partner_above c s t (sets c h) e in
+        let a = partner_above c s t (sets_of c h) e in
         let r = face_at c t a.face in
         absurd (none r.0 (subst (λ l. In r.0 l) q (in_filter (is_within s) r.0 c r.1 (within_trans s t r.0 a.within r.2))))
     from (w ∷ []) q e =
@@ -280,14 +262,14 @@ many_fault c facets s k x e h =
 
 -- one facet contains it
 alone_in : (c facets : List (List ℕ)) (s t : List ℕ) → IsTrue (list_all is_simplex c) → IsTrue (is_simplex s) → facets ≡ c → One t ≡ holder_of (facets_with facets s) → IsAlone c s t
-alone_in c facets s t k u e h = record { sets = sets c k; simplex = rising_of s u; alone = one_at (facets_with c s) t (told c facets s (One t) e h) }
+alone_in c facets s t k u e h = record { sets = sets_of c k; simplex = rising_of s u; alone = one_at (facets_with c s) t (told c facets s (One t) e h) }
 
 -- whether the simplex has a label, and the facet one label more
 abbrev pub fits : List ℕ → List ℕ → Bool
 fits s t = not (length s == 0) && (length s + 1 == length t)
 
 pub one_value : (c facets : List (List ℕ)) (s t : List ℕ) (v : Bool) → IsTrue (list_all is_simplex c) → IsTrue (is_simplex s) → facets ≡ c → One t ≡ holder_of (facets_with facets s) → v ≡ fits s t → v ≡ true → partner c s ≡ Some t
-one_value c facets s t v k u e h f g = one_partner c s t (alone_in c facets s t k u e h) (number (length s + 1) (length t) (and_right (not (length s == 0)) _ (sym f ∙ g)))
+one_value c facets s t v k u e h f g = one_partner c s t (alone_in c facets s t k u e h) (equal_at (length s + 1) (length t) (and_right (not (length s == 0)) _ (sym f ∙ g)))
 
 pub one_passed : (c facets : List (List ℕ)) (s t : List ℕ) (v : Bool) → IsTrue (list_all is_simplex c) → IsTrue (is_simplex s) → facets ≡ c → One t ≡ holder_of (facets_with facets s) → v ≡ fits s t → v ≡ true → first_failing (free_tests c s) ≡ None
 one_passed c facets s t v k u e h f g =
@@ -300,7 +282,7 @@ one_fault c facets s t v k u e h f g = tests_are c s true false (face_of c s t [
     a = alone_in c facets s t k u e h
 
     by : (w : Bool) → not (length s == 0) ≡ w → is_free c s ≡ false
-    by true p = no_partner c s (one_alone c s t a (λ n. true≢false (sym (and_both _ _ p (numbers (length s + 1) (length t) n)) ∙ sym f ∙ g)))
+    by true p = no_partner c s (one_alone c s t a (λ n. true≢false (sym (and_both _ _ p (equal_from (length s + 1) (length t) n)) ∙ sym f ∙ g)))
     by false p = ap (λ w. w && is_some (partner c s)) p
 
 -- what the check of a free face rests on

@@ -6,8 +6,6 @@ mod free_fault;
 mod holder;
 mod laws;
 mod moves;
-#[cfg(test)]
-mod tests;
 
 pub use checking::check_free;
 pub use free_fault::FreeFault;

@@ -5,15 +5,16 @@ use Rattle.std.specs.List.{list_all, range_with_len}
 use Rattle.std.specs.Ordering.{nat_cmp}
 use Rattle.std.specs.FinMap.{nat_cmp-IsAntisymmetric}
 use Rattle.std.proofs.lemmas.Cmp.{nat_cmp_total}
-use Rattle.std.proofs.lemmas.Bool.{le-leb, cases_lt}
+use Rattle.std.proofs.lemmas.Bool.{le-leb}
 use Rattle.std.proofs.lemmas.Bool.Decides.{nat_tests}
 use Rattle.std.proofs.lemmas.List.FromFn.{length-range_with_len}
 use Rattle.simplex.specs.InOrder.{is_increasing}
 use Rattle.simplex.specs.Simplex.{is_label, is_simplex, union, without}
 use Rattle.simplex.proofs.InOrderLaws.{and_both, in_order_again}
-use Rattle.simplex.proofs.Members.{In, first, later, cases, at_head, none, all_at, all_from, in_either}
+use Rattle.simplex.proofs.Members.{In, first, later, cases, none, all_at, all_from, in_either}
 use Rattle.simplex.proofs.SimplexLaws.{above_at, rest_increasing, front_increasing, from_without}
 use Rattle.simplex.proofs.Filled.{short_of, labels_of, rising_of, simplex_from}
+use Rattle.simplex.proofs.Ranges.{from_range, range_rising}
 use Rattle.facet_set.proofs.FlipLaws.{length-without}
 
 pub below_true : (x y : ℕ) → ltb x y ≡ true → x < y
@@ -60,33 +61,15 @@ simplex_cone s x l h i b m k =
     (let n = below_true x l (all_at (λ x. ltb x l) x s b i) in omega arith) m
 
 -- ---- the numbers from one on
-pub from_range : (a n x : ℕ) → In x (range_with_len a n) → (a ≤ x) × (x < a + n)
-from_range a zero x i = absurd (none x i)
-from_range a (suc n) x i = elim (cases i) [
-  | inl e ↦ (omega arith, omega arith)
-  | inr j ↦ let r = from_range (a + 1) n x j in (omega (arith, r.0), omega (arith, r.1))
-]
-
-pub in_range : (a n x : ℕ) → a ≤ x → x < a + n → In x (range_with_len a n)
-in_range a zero x h k = absurd (omega arith)
-in_range a (suc n) x h k = elim (cases_lt a x) [
-  | inl l ↦ later (in_range (a + 1) n x (omega arith) (omega arith))
-  | inr l ↦ at_head x a _ (omega arith)
-]
-
 pub range_more : (a n : ℕ) → range_with_len a (suc n) ≡ range_with_len a n ++ (a + n) ∷ []
 range_more a zero = ap (λ x. x ∷ []) (omega arith)
 range_more a (suc n) = ap (λ xs. a ∷ xs) (range_more (a + 1) n ∙ ap (λ x. range_with_len (a + 1) n ++ x ∷ []) (omega arith))
-
-pub rising_range : (a n : ℕ) → is_increasing nat_cmp (range_with_len a n) ≡ true
-rising_range a zero = refl
-rising_range a (suc n) = front_increasing a (range_with_len (a + 1) n) (λ c i. let r = (from_range (a + 1) n c i).0 in omega arith) (rising_range (a + 1) n)
 
 pub simplex_range : (a n : ℕ) → 1 ≤ a → n ≤ 12 → a + n ≤ 1000001 → IsTrue (is_simplex (range_with_len a n))
 simplex_range a n h k m =
     simplex_from (range_with_len a n) (omega (arith, length-range_with_len a n))
     (all_from is_label (range_with_len a n) (λ x i. let r = from_range a n x i in label_from x (omega (arith, r.0)) (omega (arith, r.1))))
-    (rising_range a n)
+    (range_rising a n)
 
 pub range_next : (i : ℕ) (front : List ℕ) → i + 1 ≤ 12 → front ≡ range_with_len 1 i → IsTrue (is_simplex (front ++ (i + 1) ∷ []))
 range_next i front h e = subst (λ xs. IsTrue (is_simplex xs)) (range_more 1 i ∙ ap (λ x. range_with_len 1 i ++ x ∷ []) (omega arith) ∙ ap (λ xs. xs ++ (i + 1) ∷ []) (sym e)) (simplex_range 1 (suc i) (omega arith) (omega arith) (omega arith))

@@ -15,18 +15,21 @@ use Rattle.simplex.proofs.Filled.{labels_of}
 use Rattle.simplex.proofs.InOrderLaws.{and_left, and_right, and_both}
 use Rattle.simplex.proofs.Members.{In, all_at, all_from, in_filter, from_filter, from_map, in_left, in_right, in_either, is_member_at, same_in_order}
 use Rattle.simplex.proofs.SimplexLaws.{has_at}
+use Rattle.simplex.proofs.Ranges.{from_range, range_rising}
+use Rattle.simplex.proofs.Decided.{equal_at}
 use Rattle.facet_set.specs.Complex.{simplices, generated, verts, stands_in}
-use Rattle.facet_set.specs.Maps.{image, image_of, is_distinct}
+use Rattle.facet_set.specs.Maps.{image, image_of, is_distinct, relabelled}
 use Rattle.facet_set.specs.Numbers.{size, is_pure, greatest}
 use Rattle.facet_set.proofs.ComplexLaws.{exact, is_set, in_simplices, from_simplices}
 use Rattle.facet_set.proofs.FlipLaws.{pure_at}
 use Rattle.facet_set.proofs.OptionLaws.{in_verts}
+use Rattle.facet_set.proofs.MapLaws.{firsts, seconds, Renames, length_relabelled, one_length}
+use Rattle.facet_set.proofs.SetLaws.{in_set, set_up, length_distinct, distinct_both, increasing_distinct, faultless_distinct}
 use Rattle.constructions.specs.Gluing.{all_but, glued, sum_of, sum_tests}
-use Rattle.constructions.specs.Relabelling.{relabelled, renumbering}
+use Rattle.constructions.specs.Relabelling.{renumbering}
 use Rattle.constructions.specs.declared.make_fault.MakeFault.TheVariants.{NotPure, DimDiffers, NotFacet, LabelRange}
 use Rattle.constructions.proofs.JoinLaws.{passed, above_greatest}
-use Rattle.constructions.proofs.MapLaws.{firsts, seconds, Renames, length_relabelled, one_length, in_range, range_up, firsts_renumbering, seconds_renumbering, renumbering_labels}
-use Rattle.constructions.proofs.SetLaws.{equal_at, in_set, set_up, length_distinct, distinct_both, increasing_distinct, faultless_distinct}
+use Rattle.constructions.proofs.NumberLaws.{firsts_renumbering, seconds_renumbering, renumbering_labels}
 
 pub fault_labels : (f : List ℕ) → simplex_fault f ≡ None → list_all is_label f ≡ true
 fault_labels f h = all_from is_label f (λ a i. all_at is_label a (set f) (labels_of (set f) (faultless_simplex f h)) (in_set a f i))
@@ -92,8 +95,8 @@ module _ (x : List (List ℕ)) (f : List ℕ) (y : List (List ℕ)) (g : List �
     known = λ s i a j. subst (λ l. In a l) (sym glued_firsts) (by a (has g a) refl (in_verts y s a i j));
     apart =
         ap is_distinct glued_seconds
-        ∙ distinct_both f (range_with_len (greatest x + 1) (length (minus (verts y) g))) (faultless_distinct f clean_f) (increasing_distinct (range_with_len (greatest x + 1) (length (minus (verts y) g))) (range_up (greatest x + 1) (length (minus (verts y) g))))
-        (λ a i j. let low = above_greatest x (set f) a h.facet_f (in_set a f i) in let high = in_range (greatest x + 1) (length (minus (verts y) g)) a j in absurd (omega (arith, high.0)));
+        ∙ distinct_both f (range_with_len (greatest x + 1) (length (minus (verts y) g))) (faultless_distinct f clean_f) (increasing_distinct (range_with_len (greatest x + 1) (length (minus (verts y) g))) (range_rising (greatest x + 1) (length (minus (verts y) g))))
+        (λ a i j. let low = above_greatest x (set f) a h.facet_f (in_set a f i) in let high = from_range (greatest x + 1) (length (minus (verts y) g)) a j in absurd (omega (arith, high.0)));
   }
     where
       by : (a : ℕ) (v : Bool) → has g a ≡ v → In a (verts y) → In a (g ++ minus (verts y) g)

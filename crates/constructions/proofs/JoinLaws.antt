@@ -1,31 +1,35 @@
 -- Joins: their facets are maximal, and how many and how large they are.
 use Rattle.std.proofs.Common.{◌≡◌, ℕ, zero, suc, ◌+◌, ◌*◌, ◌^◌, ◌≤◌, ◌<◌, Bool, true, false, ◌||◌, cond, Option, Some, None, List, [], ◌∷◌, ◌++◌, map, length, length-append, max, min, refl, sym, ap, ◌∙◌, subst, ◌⊎◌, inl, inr, arith}
 use Rattle.std.specs.Prelude.{◌==◌, nat_le}
-use Rattle.std.specs.Ordering.{is_lt, match_ordering}
-use Rattle.std.specs.declared.cmp.Ordering.TheVariants.{Less, Equal, Greater}
+use Rattle.std.specs.Ordering.{is_lt}
 use Rattle.std.specs.List.{list_all, flat_map, fold, range_with_len}
 use Rattle.std.proofs.lemmas.Bool.{leb-true, le-leb}
 use Rattle.std.proofs.lemmas.Bool.Decides.{nat_tests}
-use Rattle.std.proofs.lemmas.Cmp.{nat_list_cmp_total, tied_itself}
+use Rattle.std.proofs.lemmas.Cmp.{nat_list_cmp_total}
 use Rattle.simplex.specs.FirstFailing.{first_failing}
-use Rattle.simplex.specs.InOrder.{is_increasing, put}
+use Rattle.simplex.specs.InOrder.{is_increasing}
 use Rattle.simplex.specs.Simplex.{is_simplex, is_within, is_same, simplex_cmp, union, label_limit}
 use Rattle.simplex.proofs.InOrderLaws.{and_left, and_right}
-use Rattle.simplex.proofs.Members.{In, first, later, cases, at_head, none, all_at, all_from, in_map, from_map, in_flat_map, from_flat_map, in_either}
+use Rattle.simplex.proofs.Members.{In, first, later, cases, none, all_at, all_from, in_map, from_map, in_flat_map, from_flat_map, in_either}
 use Rattle.simplex.proofs.SimplexLaws.{within_in, in_within, in_union, from_union, disjoint_from, within_itself}
+use Rattle.simplex.proofs.Ranges.{from_range, range_rising}
+use Rattle.simplex.proofs.Decided.{false_from, false_at, not_true}
 use Rattle.facet_set.specs.ClassLaws.{IsOnce}
 use Rattle.facet_set.specs.Complex.{simplices, generated, is_complex, is_proper_face, verts}
-use Rattle.facet_set.specs.Maps.{image, image_of, is_distinct}
+use Rattle.facet_set.specs.Maps.{image, image_of, is_distinct, relabelled}
 use Rattle.facet_set.specs.Numbers.{size, weight, greatest}
-use Rattle.facet_set.proofs.ComplexLaws.{exact, is_set, same_itself, maximal_from, in_simplices, from_simplices, is_complex-generated}
+use Rattle.facet_set.proofs.ComplexLaws.{exact, is_set, same_itself, maximal_from, in_simplices, from_simplices, is_complex-generated, sets_of}
 use Rattle.facet_set.proofs.FlipLaws.{length-union}
 use Rattle.facet_set.proofs.OptionLaws.{in_verts}
 use Rattle.facet_set.proofs.VertexLaws.{fold_append}
+use Rattle.facet_set.proofs.MapLaws.{seconds, Renames, image_pair, from_relabelled, length_relabelled, within_back, facet_same, all_maximal, image_is, in_image, from_image}
+use Rattle.facet_set.proofs.SetLaws.{length_images, set_up, increasing_distinct}
+use Rattle.facet_set.proofs.Counting.{count-put}
+use Rattle.facet_set.proofs.FacetLaws.{not_below_itself}
 use Rattle.constructions.specs.Joins.{moved, join, fit_tests, join_tests}
 use Rattle.constructions.specs.declared.make_fault.MakeFault.TheVariants.{DimLimit, LabelRange, Size}
-use Rattle.constructions.specs.Relabelling.{relabelled, renumbering}
-use Rattle.constructions.proofs.MapLaws.{sets_of, seconds, Renames, image_pair, from_relabelled, length_relabelled, within_back, facet_same, all_maximal, image_is, in_image, from_image, in_range, range_up, firsts_renumbering, seconds_renumbering}
-use Rattle.constructions.proofs.SetLaws.{length_images, false_from, false_at, not_true, set_up, increasing_distinct}
+use Rattle.constructions.specs.Relabelling.{renumbering}
+use Rattle.constructions.proofs.NumberLaws.{firsts_renumbering, seconds_renumbering}
 
 -- ---- the greatest label
 above : (a : ℕ) (xs : List ℕ) → In a xs → a ≤ fold max 0 xs
@@ -59,29 +63,14 @@ largest (t ∷ u ∷ c) s i =
     longer (suc m) zero = inl (omega arith)
     longer (suc m) (suc n) = elim (longer m n) [ inl h ↦ inl (omega arith) | inr h ↦ inr (omega arith) ]
 
-count-put : (x : List ℕ) (ys : List (List ℕ)) → (In x ys → ⊥) → length (put simplex_cmp x ys) ≡ suc (length ys)
-count-put x [] f = refl
-count-put x (y ∷ ys) f =
-    elim (simplex_cmp x y) as (λ r. simplex_cmp x y ≡ r → length (match_ordering r (x ∷ y ∷ ys) (y ∷ ys) (y ∷ put simplex_cmp x ys)) ≡ suc (suc (length ys))) [
-      | Less ↦ λ e. refl
-      | Equal ↦ λ e. absurd (f (at_head x y ys (exact x y e)))
-      | Greater ↦ λ e. ap suc (count-put x ys (λ i. f (later i)))
-    ] refl
-
 pub count_simplices : (l : List (List ℕ)) → IsOnce (List ℕ) l → length (simplices l) ≡ length l
 count_simplices [] h = refl
-count_simplices (s ∷ l) h = count-put s (simplices l) (λ i. h.0 (from_simplices s l i)) ∙ ap suc (count_simplices l h.1)
+count_simplices (s ∷ l) h = count-put nat_list_cmp_total exact s (simplices l) (λ i. h.0 (from_simplices s l i)) ∙ ap suc (count_simplices l h.1)
 
 -- ---- lists with no member twice
-not_below : (s : List ℕ) → is_lt (simplex_cmp s s) ≡ true → ⊥
-not_below s h = clash (sym (ap is_lt (tied_itself nat_list_cmp_total s)) ∙ h)
-  where
-    clash : false ≡ true → ⊥
-    clash e = false_at false refl e
-
 pub once_increasing : (c : List (List ℕ)) → is_increasing simplex_cmp c ≡ true → IsOnce (List ℕ) c
 once_increasing [] h = tt
-once_increasing (s ∷ c) h = (λ i. not_below s (all_at (λ t. is_lt (simplex_cmp s t)) s c (and_left _ _ h) i), once_increasing c (and_right (list_all (λ t. is_lt (simplex_cmp s t)) c) _ h))
+once_increasing (s ∷ c) h = (λ i. not_below_itself s (all_at (λ t. is_lt (simplex_cmp s t)) s c (and_left _ _ h) i), once_increasing c (and_right (list_all (λ t. is_lt (simplex_cmp s t)) c) _ h))
 
 once_map : (f : List ℕ → List ℕ) (c : List (List ℕ)) → ((s t : List ℕ) → In s c → In t c → f s ≡ f t → s ≡ t) → IsOnce (List ℕ) c → IsOnce (List ℕ) (map f c)
 once_map f [] g h = tt
@@ -189,7 +178,7 @@ pub moves : (g : ℕ) (y : List (List ℕ)) → list_all is_set y ≡ true → R
 moves g y h = record {
   sets = h;
   known = λ s i a j. subst (λ l. In a l) (sym (firsts_renumbering g (verts y))) (in_verts y s a i j);
-  apart = ap is_distinct (seconds_renumbering g (verts y)) ∙ increasing_distinct (range_with_len (g + 1) (length (verts y))) (range_up (g + 1) (length (verts y)));
+  apart = ap is_distinct (seconds_renumbering g (verts y)) ∙ increasing_distinct (range_with_len (g + 1) (length (verts y))) (range_rising (g + 1) (length (verts y)));
 }
 
 module _ (x y : List (List ℕ)) (sx : list_all is_simplex x ≡ true) (cx : is_complex x ≡ true) (sy : list_all is_simplex y ≡ true) (cy : is_complex y ≡ true) where
@@ -205,7 +194,7 @@ module _ (x y : List (List ℕ)) (sx : list_all is_simplex x ≡ true) (cx : is_
       let q = from_relabelled names r.0 b (subst (λ u. In b u) r.2 j) in
       let pair = image_pair names q.0 (renames.known r.0 r.1 q.0 q.1) in
       let there : In b (seconds names) = subst (λ c. In c (seconds names)) (sym q.2) (in_map (λ (p : ℕ × ℕ). p.1) (q.0, image_of names q.0) names pair) in
-      let range = in_range (greatest x + 1) (length (verts y)) b (subst (λ l. In b l) (seconds_renumbering (greatest x) (verts y)) there) in
+      let range = from_range (greatest x + 1) (length (verts y)) b (subst (λ l. In b l) (seconds_renumbering (greatest x) (verts y)) there) in
       omega (arith, range.0)
 
   pub split : IsSplit (greatest x) x (moved x y)

@@ -5,11 +5,10 @@ pub mod GluingLaws
 pub mod JoinFaces
 pub mod JoinLaws
 pub mod LevelLaws
-pub mod MapLaws
 pub mod NearLaws
+pub mod NumberLaws
 pub mod RankedLaws
 pub mod RelabelLaws
 pub mod RunLaws
-pub mod SetLaws
 pub mod SphereLaws
 pub mod StackedLaws

@@ -5,16 +5,12 @@ use Rattle.simplex.specs.Simplex.{has}
 use Rattle.simplex.proofs.InOrderLaws.{and_left, and_right, and_both}
 use Rattle.simplex.proofs.Members.{any_from, any_at}
 use Rattle.simplex.proofs.SimplexLaws.{has_at, has_from}
+use Rattle.simplex.proofs.Decided.{agree, or_right}
 use Rattle.facet_set.specs.Complex.{verts}
 use Rattle.facet_set.specs.Connection.{is_edge}
 use Rattle.facet_set.proofs.OptionLaws.{in_verts}
 use Rattle.constructions.specs.Nearness.{is_near}
 use Rattle.constructions.specs.Twins.{has_beside}
-use Rattle.constructions.proofs.SetLaws.{agree}
-
-or_right : (v w : Bool) → w ≡ true → (v || w) ≡ true
-or_right true w h = refl
-or_right false w h = h
 
 -- the labels have a vertex that is joined to both, where they are near
 near_at : (c : List (List ℕ)) (a b : ℕ) (test : ℕ → Bool) → ((v : ℕ) → test v ≡ is_edge c a v) → is_near c a b ≡ true → list_any (has_beside test b) c ≡ true

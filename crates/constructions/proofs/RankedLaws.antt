@@ -3,9 +3,8 @@ use Rattle.std.proofs.Common.{◌≡◌, ℕ, zero, suc, ◌+◌, ◌-◌, ◌<�
 use mathlib.Core.Bool.{true≢false}
 use Rattle.std.specs.List.{list_all, insert, remove, slice_get}
 use Rattle.std.specs.Prelude.{Some, Result, OnOk}
-use Rattle.std.specs.List.Sorted.{IsSortedBy, IsBinarySearchResult}
+use Rattle.std.specs.List.Sorted.{IsBinarySearchResult}
 use Rattle.std.specs.Ordering.{is_lt, match_ordering, ordering_reverse}
-use Rattle.std.specs.declared.cmp.Ordering.{Ordering}
 use Rattle.std.specs.declared.cmp.Ordering.TheVariants.{Less, Equal, Greater}
 use Rattle.std.proofs.lemmas.Cmp.{nat_list_cmp_total, tied_itself}
 use Rattle.std.proofs.lemmas.List.{set_split, take_more_set, drop-set-lt, nil_from_length, get_or_read, get_or_append_left, get_or-append-add, drop_all}
@@ -14,17 +13,13 @@ use Rattle.std.proofs.lemmas.List.Sorted.{searchable_from_sorted}
 use Rattle.std.proofs.lemmas.Bool.{cases_lt}
 use Rattle.simplex.specs.InOrder.{is_increasing, put}
 use Rattle.simplex.specs.Simplex.{simplex_cmp}
-use Rattle.simplex.proofs.InOrderLaws.{and_left, and_right, and_both, is_increasing-put}
+use Rattle.simplex.proofs.InOrderLaws.{and_left, and_right, and_both, is_increasing-put, less_is}
 use Rattle.facet_set.proofs.ComplexLaws.{exact}
-use Rattle.simplex.proofs.Members.{In, first, later, cases, none, contains_in, all_at, all_from, in_left, in_right, in_either}
+use Rattle.facet_set.proofs.FacetLaws.{sorted}
+use Rattle.simplex.proofs.Members.{In, first, cases, none, contains_in, all_at, all_from, in_left, in_right, in_either}
 use Rattle.constructions.specs.Ranked.{joined, are_below, is_filled, IsRanked}
 
 -- ---- the order
-less_is : (r : Ordering) → is_lt r ≡ true → r ≡ Less
-less_is Less h = refl
-less_is Equal h = cc
-less_is Greater h = cc
-
 greater_from : (s t : List ℕ) → simplex_cmp t s ≡ Less → simplex_cmp s t ≡ Greater
 greater_from s t h = nat_list_cmp_total.antisymm s t ∙ ap ordering_reverse h
 
@@ -52,15 +47,6 @@ rising_between (z ∷ xs) ys x y h i j =
       | inl e ↦ subst (λ w. is_lt (simplex_cmp w y) ≡ true) (sym e) (all_at (λ y. is_lt (simplex_cmp z y)) y (xs ++ ys) (and_left _ _ h) (in_right y xs ys j))
       | inr k ↦ rising_between xs ys x y (and_right (list_all (λ y. is_lt (simplex_cmp z y)) (xs ++ ys)) _ h) k j
     ]
-
-pub rising_join : (xs ys : List (List ℕ)) → is_increasing simplex_cmp xs ≡ true → is_increasing simplex_cmp ys ≡ true → ((x y : List ℕ) → In x xs → In y ys → is_lt (simplex_cmp x y) ≡ true) → is_increasing simplex_cmp (xs ++ ys) ≡ true
-rising_join [] ys h k f = k
-rising_join (x ∷ xs) ys h k f =
-    and_both _ _ (all_from (λ y. is_lt (simplex_cmp x y)) (xs ++ ys) (λ y i. elim (in_either y xs ys i) [
-      | inl j ↦ all_at (λ y. is_lt (simplex_cmp x y)) y xs (and_left _ _ h) j
-      | inr j ↦ f x y first j
-    ]))
-    (rising_join xs ys (and_right (list_all (λ y. is_lt (simplex_cmp x y)) xs) _ h) k (λ y z i j. f y z (later i) j))
 
 list_all-remove : {X : Type 0} (p : X → Bool) (xs : List X) (i : ℕ) → list_all p xs ≡ true → list_all p (remove xs i) ≡ true
 list_all-remove p [] zero h = refl
@@ -96,18 +82,6 @@ put_filled s [] = refl
 put_filled s (x ∷ xs) = elim (simplex_cmp s x) as (λ r. is_filled (match_ordering r (s ∷ x ∷ xs) (x ∷ xs) (x ∷ put simplex_cmp s xs)) ≡ true) [ Less ↦ refl | Equal ↦ refl | Greater ↦ refl ]
 
 -- ---- binary search
-not_less : (s t : List ℕ) → is_lt (simplex_cmp s t) ≡ true → is_lt (simplex_cmp t s) ≡ false
-not_less s t h = ap is_lt (greater_from t s (less_is _ h))
-
-adjacent : (c : List (List ℕ)) (k : ℕ) (d : List ℕ) → is_increasing simplex_cmp c ≡ true → suc k < length c → is_lt (simplex_cmp (get_or c (suc k) d) (get_or c k d)) ≡ false
-adjacent [] k d h n = absurd (omega arith)
-adjacent (x ∷ []) k d h n = absurd (omega arith)
-adjacent (x ∷ y ∷ c) zero d h n = not_less x y (and_left (is_lt (simplex_cmp x y)) _ (and_left _ _ h))
-adjacent (x ∷ y ∷ c) (suc k) d h n = adjacent (y ∷ c) k d (and_right (list_all (λ z. is_lt (simplex_cmp x z)) (y ∷ c)) _ h) (omega arith)
-
-sorted : (c : List (List ℕ)) → is_increasing simplex_cmp c ≡ true → IsSortedBy (λ a b. is_lt (simplex_cmp a b)) c
-sorted c h = λ k d z n. ap (λ j. is_lt (simplex_cmp (get_or c j d) (get_or c k d))) (add-one k) ∙ adjacent c k d h (omega arith)
-
 insert_here : (s : List ℕ) (xs : List (List ℕ)) (k : ℕ) → k ≤ length xs → ((j : ℕ) (d : List ℕ) → j < k → simplex_cmp (get_or xs j d) s ≡ Less) → ((j : ℕ) (d : List ℕ) → k ≤ j → j < length xs → simplex_cmp (get_or xs j d) s ≡ Greater) → insert xs k s ≡ put simplex_cmp s xs
 insert_here s [] zero l b a = refl
 insert_here s [] (suc k) l b a = absurd (omega (arith, l))

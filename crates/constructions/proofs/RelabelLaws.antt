@@ -7,13 +7,13 @@ use Rattle.simplex.specs.SimplexFault.{set}
 use Rattle.simplex.proofs.InOrderLaws.{and_left, and_right}
 use Rattle.simplex.proofs.Members.{In, all_at, in_map, from_map}
 use Rattle.facet_set.specs.Complex.{is_complex, verts}
-use Rattle.facet_set.specs.Maps.{image, image_of, is_distinct}
-use Rattle.facet_set.proofs.ComplexLaws.{is_set, same_from, generated_same, generated_again}
+use Rattle.facet_set.specs.Maps.{image, image_of, is_distinct, relabelled}
+use Rattle.facet_set.proofs.ComplexLaws.{is_set, same_from, generated_same, generated_again, sets_of}
 use Rattle.facet_set.proofs.OptionLaws.{in_verts}
+use Rattle.facet_set.proofs.SetLaws.{from_set, same_set, set_again}
+use Rattle.facet_set.proofs.MapLaws.{firsts, seconds, Renames, image_pair, pair_image, in_relabelled, from_relabelled, in_image, from_image}
 use Rattle.constructions.specs.Laws.{RelabelsBack}
-use Rattle.constructions.specs.Relabelling.{relabelled, turned, is_renaming}
-use Rattle.constructions.proofs.SetLaws.{from_set, same_set, set_again}
-use Rattle.constructions.proofs.MapLaws.{sets_of, firsts, seconds, Renames, image_pair, pair_image, in_relabelled, from_relabelled, in_image, from_image}
+use Rattle.constructions.specs.Relabelling.{turned, is_renaming}
 
 firsts_turned : (m : List (ℕ × ℕ)) → firsts (turned m) ≡ seconds m
 firsts_turned [] = refl

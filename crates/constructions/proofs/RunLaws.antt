@@ -14,12 +14,13 @@ use Rattle.simplex.specs.Simplex.{has, simplex_cmp, subsets, minus}
 use Rattle.simplex.proofs.InOrderLaws.{and_left, and_right, and_both, in_order_again}
 use Rattle.simplex.proofs.Members.{In, first, later, cases, at_head, none, all_at, all_from, in_map, from_map, in_left, in_right, in_either, in_filter, from_filter, same_in_order}
 use Rattle.simplex.proofs.SimplexLaws.{above_at, rest_increasing, front_increasing, has_at, has_from, within_in, in_within}
+use Rattle.simplex.proofs.Ranges.{in_range, from_range, range_rising}
 use Rattle.facet_set.proofs.ComplexLaws.{exact, is_set, from_subsets, in_subsets}
+use Rattle.facet_set.proofs.FacetLaws.{rising_join}
 use Rattle.constructions.specs.Runs.{runs, starts}
 use Rattle.constructions.specs.Cyclic.{is_even_between, subsets_of_size, cyclic}
-use Rattle.constructions.proofs.FrontLaws.{true_below, from_range, in_range, rising_range}
+use Rattle.constructions.proofs.FrontLaws.{true_below}
 use Rattle.constructions.proofs.LevelLaws.{IsLevel}
-use Rattle.constructions.proofs.RankedLaws.{rising_join}
 
 -- ---- parity
 abbrev pub is_odd : ℕ → Bool
@@ -325,7 +326,7 @@ pub gale_from : (k n : ℕ) (s : List ℕ) → In s (filter (is_even_between n) 
 gale_from k n s i =
     let p = from_filter (is_even_between n) s (subsets_of_size k n) i in
     let q = from_filter (λ s. length s == k) s (subsets (range_with_len 1 n)) p.0 in
-    let r = from_subsets (range_with_len 1 n) s (rising_range 1 n) q.0 in
+    let r = from_subsets (range_with_len 1 n) s (range_rising 1 n) q.0 in
     let out = minus (range_with_len 1 n) s in
     record {
       set = r.0;
@@ -343,7 +344,7 @@ gale_from k n s i =
 pub gale_in : (k n : ℕ) (s : List ℕ) → IsStart 1 n k s → In s (filter (is_even_between n) (subsets_of_size k n))
 gale_in k n s p =
     in_filter (is_even_between n) s (subsets_of_size k n)
-    (in_filter (λ s. length s == k) s (subsets (range_with_len 1 n)) (in_subsets (range_with_len 1 n) s (rising_range 1 n) p.set (in_within s (range_with_len 1 n) (λ x i. let b = p.bounds x i in in_range 1 n x b.0 b.1))) (same (length s) k p.size))
+    (in_filter (λ s. length s == k) s (subsets (range_with_len 1 n)) (in_subsets (range_with_len 1 n) s (range_rising 1 n) p.set (in_within s (range_with_len 1 n) (λ x i. let b = p.bounds x i in in_range 1 n x b.0 b.1))) (same (length s) k p.size))
     (all_from (λ b. list_all (λ c. between b c s % 2 == 0) (minus (range_with_len 1 n) s)) (minus (range_with_len 1 n) s) (λ b i. all_from (λ c. between b c s % 2 == 0) (minus (range_with_len 1 n) s) (λ c j.
     let x = from_filter (λ a. not (has s a)) b (range_with_len 1 n) i in
     let y = from_filter (λ a. not (has s a)) c (range_with_len 1 n) j in

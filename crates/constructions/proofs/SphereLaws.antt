@@ -9,11 +9,13 @@ use Rattle.simplex.specs.Simplex.{is_label, is_simplex, without}
 use Rattle.simplex.proofs.Filled.{simplex_from}
 use Rattle.simplex.proofs.Members.{In, first, later, cases, none, all_from, from_map, from_flat_map, in_either}
 use Rattle.simplex.proofs.SimplexLaws.{is_increasing-filter, above_at, rest_increasing, front_increasing, from_without}
+use Rattle.simplex.proofs.Ranges.{from_range, range_rising}
 use Rattle.facet_set.specs.Complex.{generated}
 use Rattle.facet_set.proofs.ComplexLaws.{is_set}
 use Rattle.facet_set.proofs.FlipLaws.{length-without}
+use Rattle.facet_set.proofs.MapLaws.{one_length}
 use Rattle.constructions.specs.Spheres.{bdsimplex, bdcross, one_of_each}
-use Rattle.constructions.proofs.MapLaws.{in_range, is_labelled, range_up, one_length}
+use Rattle.constructions.proofs.NumberLaws.{is_labelled}
 
 -- ---- ranges
 pub range_more : (a n : ℕ) → range_with_len a n ++ (a + n) ∷ [] ≡ range_with_len a (n + 1)
@@ -26,18 +28,18 @@ range_more a n = grow a n ∙ ap (range_with_len a) (sym (add-one n))
 -- ---- the boundary of a simplex
 without_length : (d a : ℕ) → In a (range_with_len 1 (d + 1)) → length (without (range_with_len 1 (d + 1)) a) ≡ d
 without_length d a i =
-    let less = length-without a (range_with_len 1 (d + 1)) (range_up 1 (d + 1)) i in
+    let less = length-without a (range_with_len 1 (d + 1)) (range_rising 1 (d + 1)) i in
     let whole = length-range_with_len 1 (d + 1) in
     omega arith
 
 without_set : (d a : ℕ) → is_set (without (range_with_len 1 (d + 1)) a) ≡ true
-without_set d a = is_increasing-filter nat_cmp (λ b. not (a == b)) (range_with_len 1 (d + 1)) (range_up 1 (d + 1))
+without_set d a = is_increasing-filter nat_cmp (λ b. not (a == b)) (range_with_len 1 (d + 1)) (range_rising 1 (d + 1))
 
 pub without_simplex : (d a : ℕ) → d ≤ 12 → In a (range_with_len 1 (d + 1)) → IsTrue (is_simplex (without (range_with_len 1 (d + 1)) a))
 without_simplex d a h i =
     let size = without_length d a i in
     simplex_from (without (range_with_len 1 (d + 1)) a) (omega arith)
-    (all_from is_label (without (range_with_len 1 (d + 1)) a) (λ b j. let q = in_range 1 (d + 1) b (from_without (range_with_len 1 (d + 1)) a b j).0 in is_labelled b (omega (arith, q.0)) (omega (arith, q.1))))
+    (all_from is_label (without (range_with_len 1 (d + 1)) a) (λ b j. let q = from_range 1 (d + 1) b (from_without (range_with_len 1 (d + 1)) a b j).0 in is_labelled b (omega (arith, q.0)) (omega (arith, q.1))))
     (without_set d a)
 
 pub generated_bdsimplex : (d : ℕ) → generated (map (without (range_with_len 1 (d + 1))) (range_with_len 1 (d + 1))) ≡ bdsimplex d

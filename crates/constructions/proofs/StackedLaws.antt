@@ -1,5 +1,5 @@
 -- Stacked spheres: each flip is allowed, and what it makes.
-use Rattle.std.proofs.Common.{◌≡◌, ℕ, zero, suc, ◌+◌, ◌-◌, ◌*◌, ◌%◌, ◌^◌, ◌<◌, ◌≤◌, Bool, true, false, not, cond, ltb, leb, eqb, List, [], ◌∷◌, ◌++◌, map, length, get_or, take, Some, None, refl, sym, ap, ◌∙◌, subst, ◌⊎◌, inl, inr, arith, append-nil, length-append, add-one, mul-le-mul, mod-eq_of_lt}
+use Rattle.std.proofs.Common.{◌≡◌, ℕ, zero, suc, ◌+◌, ◌-◌, ◌*◌, ◌%◌, ◌^◌, ◌<◌, ◌≤◌, true, false, not, cond, ltb, leb, eqb, List, [], ◌∷◌, ◌++◌, map, length, get_or, take, Some, None, refl, sym, ap, ◌∙◌, subst, ◌⊎◌, inl, inr, arith, append-nil, length-append, add-one, mul-le-mul, mod-eq_of_lt}
 use Rattle.std.proofs.Math.Nat.{pow-le-pow_right}
 use mathlib.Core.Bool.{true≢false}
 use Rattle.std.specs.Bool.{IsTrue}
@@ -24,7 +24,7 @@ use Rattle.facet_set.specs.Complex.{verts, facets_with, is_face, generated}
 use Rattle.facet_set.specs.Numbers.{weight}
 use Rattle.facet_set.specs.Flips.{allowed, flip, ball, fresh, least_missing, after, goes}
 use Rattle.facet_set.proofs.ComplexLaws.{exact, is_set, face_at}
-use Rattle.facet_set.proofs.FlipLaws.{allowed_from, in_flip, from_flip, in_ball, from_ball, length-without, pure_from}
+use Rattle.facet_set.proofs.FlipLaws.{allowed_from, in_flip, from_flip, in_ball, from_ball, length-without, pure_from, without_none}
 use Rattle.facet_set.proofs.OptionLaws.{in_verts, from_verts}
 use Rattle.constructions.specs.Spheres.{bdsimplex}
 use Rattle.rand_pcg.specs.Lcg.{Lcg}
@@ -32,13 +32,11 @@ use Rattle.seeded_words.specs.Words.{generator, word, after_word, words_from, wo
 use Rattle.constructions.specs.Stacked.{stacking, stackings, stacking_flips, stacked, stacked_tests, StackedGoes}
 use Rattle.constructions.specs.declared.make_fault.MakeFault.TheVariants.{Range, DimLimit, LabelRange, Size}
 use Rattle.simplex.specs.FirstFailing.{first_failing}
-use Rattle.constructions.proofs.FrontLaws.{true_below, rising_push, simplex_cone, from_range, in_range, range_more, rising_range}
+use Rattle.simplex.proofs.Ranges.{in_range, from_range, range_rising}
+use Rattle.simplex.proofs.Decided.{false_from}
+use Rattle.constructions.proofs.FrontLaws.{true_below, rising_push, simplex_cone, range_more}
 use Rattle.constructions.proofs.LevelLaws.{IsLevel, level_size, level_weight, level_generated, length_in_order, once_map, member_at, from_remove, in_remove}
 use Rattle.constructions.proofs.RankedLaws.{rising_remove}
-
-false_from : (v : Bool) → (v ≡ true → ⊥) → v ≡ false
-false_from true f = absurd (f refl)
-false_from false f = refl
 
 -- the simplex with each of its labels replaced by the new one
 abbrev pub cones : List ℕ → ℕ → List (List ℕ)
@@ -60,7 +58,7 @@ least_range n (suc k) = ap (λ v. cond v (least_missing (n + 1) (range_with_len 
 
 verts_are : (d m : ℕ) (c : List (List ℕ)) → IsStack d m c → verts c ≡ range_with_len 1 m
 verts_are d m c p =
-    same_sets nat_cmp_total nat_cmp-IsAntisymmetric (verts c) (range_with_len 1 m) (is_increasing-in_order nat_cmp_total (flat_map (λ s. s) c)) (rising_range 1 m)
+    same_sets nat_cmp_total nat_cmp-IsAntisymmetric (verts c) (range_with_len 1 m) (is_increasing-in_order nat_cmp_total (flat_map (λ s. s) c)) (range_rising 1 m)
     (λ x i. let r = from_verts c x i in let b = p.labels r.0 x r.1 r.2 in in_range 1 m x b.0 (omega (arith, b.1)))
     (λ x i. let b = from_range 1 m x i in let r = p.covers x b.0 (omega (arith, b.1)) in in_verts c r.0 x r.1 r.2)
 
@@ -316,14 +314,6 @@ without-append (y ∷ s) t x =
       | false ↦ ap (λ u. y ∷ u) (without-append s t x)
     ]
 
-without_none : (x : ℕ) (s : List ℕ) → (In x s → ⊥) → without s x ≡ s
-without_none x [] f = refl
-without_none x (y ∷ s) f =
-    elim (x == y) as (λ v. (x == y) ≡ v → cond (not v) (y ∷ without s x) (without s x) ≡ y ∷ s) [
-      | true ↦ λ e. absurd (f (at_head x y s (grind (arith, nat_tests))))
-      | false ↦ λ e. ap (λ u. y ∷ u) (without_none x s (λ i. f (later i)))
-    ] refl
-
 pub start_is : (d : ℕ) → in_order simplex_cmp (cones (range_with_len 1 (d + 1)) (d + 2) ++ range_with_len 1 (d + 1) ∷ []) ≡ bdsimplex (d + 1)
 start_is d =
     let base = range_with_len 1 (d + 1) in
@@ -349,7 +339,7 @@ module _ (d : ℕ) (dim : 1 ≤ d) where
   start_level : IsLevel (d + 1) (range_with_len 1 (d + 1) ∷ [])
   start_level = record {
     rising = refl;
-    sets = λ s i. elim (cases i) [ inl e ↦ ap is_set e ∙ rising_range 1 (d + 1) | inr n ↦ absurd (none s n) ];
+    sets = λ s i. elim (cases i) [ inl e ↦ ap is_set e ∙ range_rising 1 (d + 1) | inr n ↦ absurd (none s n) ];
     lengths = λ s i. elim (cases i) [ inl e ↦ ap length e ∙ length-range_with_len 1 (d + 1) | inr n ↦ absurd (none s n) ];
   }
 
@@ -367,12 +357,12 @@ module _ (d : ℕ) (dim : 1 ≤ d) where
 
   pub start_stack : IsStack d (d + 2) (bdsimplex (d + 1))
   start_stack =
-      let s = stack_coned d (d + 1) (range_with_len 1 (d + 1)) (range_with_len 1 (d + 1) ∷ []) dim (rising_range 1 (d + 1)) (length-range_with_len 1 (d + 1)) start_own start_level start_labels start_covers in
+      let s = stack_coned d (d + 1) (range_with_len 1 (d + 1)) (range_with_len 1 (d + 1) ∷ []) dim (range_rising 1 (d + 1)) (length-range_with_len 1 (d + 1)) start_own start_level start_labels start_covers in
       subst (λ m. IsStack d m (bdsimplex (d + 1))) (omega arith) (subst (λ c. IsStack d (d + 1 + 1) c) start_same s)
 
   pub start_length : length (bdsimplex (d + 1)) ≡ d + 2
   start_length =
-      sym (ap length start_same) ∙ length_coned d (d + 1) (range_with_len 1 (d + 1)) (range_with_len 1 (d + 1) ∷ []) dim (rising_range 1 (d + 1)) (length-range_with_len 1 (d + 1)) start_own start_level start_labels start_covers
+      sym (ap length start_same) ∙ length_coned d (d + 1) (range_with_len 1 (d + 1)) (range_with_len 1 (d + 1) ∷ []) dim (range_rising 1 (d + 1)) (length-range_with_len 1 (d + 1)) start_own start_level start_labels start_covers
       ∙ omega arith
 
 -- ---- the whole

@@ -4,13 +4,9 @@ use Rattle.std.specs.List.{list_all, range_with_len, zip}
 use Rattle.simplex.specs.Simplex.{is_label, is_same}
 use Rattle.simplex.specs.SimplexFault.{set}
 use Rattle.facet_set.specs.Complex.{verts}
-use Rattle.facet_set.specs.Maps.{image_of, is_distinct}
+use Rattle.facet_set.specs.Maps.{is_distinct}
 use Rattle.constructions.specs.declared.make_fault.MakeFault.{MakeFault}
 use Rattle.constructions.specs.declared.make_fault.MakeFault.TheVariants.{NotMap, LabelRange}
-
--- the simplex with each label replaced
-abbrev pub relabelled : List (ℕ × ℕ) → List ℕ → List ℕ
-relabelled m s = set (map (image_of m) s)
 
 -- the labels in order, each beside one of the labels that follow n
 abbrev pub renumbering : ℕ → List ℕ → List (ℕ × ℕ)

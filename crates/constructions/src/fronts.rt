@@ -1,8 +1,9 @@
 // Simplices that grow at their end.
 ghost use Rattle.std.specs.Prelude.{◌≡◌, ◌≤◌, ◌++◌, [], ◌∷◌, IsTrue};
 ghost use Rattle.std.specs.List.{range_with_len};
-ghost use Rattle.simplex.specs.Simplex.{is_label, is_simplex};
+ghost use Rattle.simplex.specs.Simplex.{is_simplex};
 
+use facet_set::point;
 use simplex::Simplex;
 
 /// The simplex with one more label, above all others.
@@ -13,17 +14,6 @@ pub fn with_last(s: &Simplex, label: u32) -> Simplex
     match s.union(&point(label)) {
         Some(union) => union,
         None => unreachable!(),
-    }
-}
-
-// The simplex with this label alone.
-fn point(label: u32) -> Simplex
-    requires { IsTrue (is_label label) }
-    ensures { result ≡ label ∷ [] }
-{
-    match Simplex::of([label].as_slice()) {
-        Ok(point) => point,
-        Err(_) => unreachable!(),
     }
 }
 

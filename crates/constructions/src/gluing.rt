@@ -6,15 +6,16 @@ ghost use Rattle.simplex.specs.Simplex.{is_disjoint, is_label, minus, label_limi
 ghost use Rattle.simplex.specs.SimplexFault.{set, simplex_fault};
 ghost use Rattle.facet_set.specs.Complex.{verts};
 ghost use Rattle.facet_set.specs.Numbers.{greatest};
-ghost use Rattle.constructions.specs.Relabelling.{relabelled, renumbering};
+ghost use Rattle.facet_set.specs.Maps.{relabelled};
+ghost use Rattle.constructions.specs.Relabelling.{renumbering};
 ghost use Rattle.constructions.specs.Gluing.{all_but, sum_of, handle, glued, sum_tests, handle_tests, near_tests};
 ghost use Rattle.constructions.specs.declared.make_fault.MakeFault.TheVariants as fault;
 
 use crate::MakeFault;
 use crate::nearness::is_near;
-use crate::relabelled::{image, relabelled, renumbering};
+use crate::relabelling::renumbering;
 use crate::sets::{all_but, simplex_of, zipped};
-use facet_set::Facets;
+use facet_set::{Facets, image, images};
 use simplex::{LABEL_LIMIT, Memory, Simplex};
 use std::alloc::Global;
 
@@ -123,7 +124,7 @@ fn facets_of_both(
 {
     let mut list = all_but(alloc, first, &simplex_of(f))?;
     let rest = all_but(alloc, second, &simplex_of(g))?;
-    let new = relabelled(alloc, &rest, pairs)?;
+    let new = images(alloc, &rest, pairs)?;
     list.extend_from_slice(&new)?;
     Ok(list)
 }

@@ -9,9 +9,8 @@ ghost use Rattle.constructions.specs.Joins.{join, cone, suspension, point, two_p
 ghost use Rattle.constructions.specs.declared.make_fault.MakeFault.TheVariants as fault;
 
 use crate::MakeFault;
-use crate::relabelled::{image, renumbering};
-use crate::sets::point;
-use facet_set::Facets;
+use crate::relabelling::renumbering;
+use facet_set::{Facets, image, point};
 use simplex::{LABEL_LIMIT, LEN_LIMIT, Memory, Simplex};
 use std::alloc::Global;
 

@@ -9,13 +9,10 @@ mod laws;
 mod make_fault;
 mod nearness;
 mod ranked;
-mod relabelled;
 mod relabelling;
 mod sets;
 mod spheres;
 mod stacked_spheres;
-#[cfg(test)]
-mod tests;
 
 pub use cyclic_spheres::cyclic;
 pub use gluing::{handle, sum};

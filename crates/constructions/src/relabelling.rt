@@ -1,18 +1,17 @@
-// Relabelling.
-ghost use Rattle.std.specs.Prelude.{◌≡◌, ◌⊎◌, None, Some, map, IfOk, IfErr, OnOk};
+// Relabelling and renumbering.
+ghost use Rattle.std.specs.Prelude.{◌≡◌, ◌≤◌, ◌+◌, ◌⊎◌, None, Some, map, length, IfOk, IfErr, OnOk};
 ghost use Rattle.std.specs.List.{list_all};
 ghost use Rattle.simplex.specs.FirstFailing.{first_failing};
-ghost use Rattle.simplex.specs.Simplex.{is_label, is_same};
+ghost use Rattle.simplex.specs.Simplex.{is_label, is_same, label_limit};
 ghost use Rattle.simplex.specs.SimplexFault.{set};
 ghost use Rattle.facet_set.specs.Complex.{verts};
 ghost use Rattle.facet_set.specs.Maps.{image, is_distinct};
-ghost use Rattle.constructions.specs.Relabelling.{is_renaming, relabel_tests};
+ghost use Rattle.constructions.specs.Relabelling.{is_renaming, relabel_tests, renumbering};
 ghost use Rattle.constructions.specs.declared.make_fault.MakeFault.TheVariants as fault;
 
 use crate::MakeFault;
-use crate::relabelled::image;
 use crate::sets::set_of;
-use facet_set::Facets;
+use facet_set::{Facets, image};
 use simplex::{LABEL_LIMIT, Memory, Pairs};
 use std::alloc::Global;
 
@@ -96,4 +95,16 @@ fn seconds(alloc: Global, pairs: &[(u32, u32)]) -> Result<Vec<u32>, Memory>
     ensures { IfOk result (λ v. v.items ≡ map (λ p. p.1) pairs.now) }
 {
     Ok(pairs.iter().map(|pair| pair.1).collect(alloc)?)
+}
+
+/// The labels in order, each with one of the labels that follow the greatest.
+pub fn renumbering(alloc: Global, greatest: u32, labels: &[u32]) -> Result<Vec<(u32, u32)>, Memory>
+    requires { greatest + length labels.now ≤ label_limit }
+    ensures value { IfOk result (λ v. v.items ≡ renumbering greatest labels.now) }
+{
+    let mut pairs = Vec::new(alloc);
+    for (i, label) in labels.iter().enumerate() {
+        pairs.push((*label, greatest + 1 + i as u32))?;
+    }
+    Ok(pairs)
 }

@@ -1,7 +1,7 @@
 // Sets of labels, simplices and pairs out of slices.
-ghost use Rattle.std.specs.Prelude.{◌≡◌, [], ◌∷◌, None, not, IfOk, IsTrue};
+ghost use Rattle.std.specs.Prelude.{◌≡◌, None, not, IfOk, IsTrue};
 ghost use Rattle.std.specs.List.{filter, zip};
-ghost use Rattle.simplex.specs.Simplex.{is_label, is_same, is_simplex};
+ghost use Rattle.simplex.specs.Simplex.{is_same, is_simplex};
 ghost use Rattle.simplex.specs.SimplexFault.{set, simplex_fault};
 ghost use Rattle.constructions.specs.Gluing.{all_but};
 
@@ -28,14 +28,6 @@ pub fn simplex_of(labels: &[u32]) -> Simplex
         Ok(s) => s,
         Err(_) => unreachable!(),
     }
-}
-
-/// The simplex with one label.
-pub fn point(label: u32) -> Simplex
-    requires { IsTrue (is_label label) }
-    ensures { result ≡ label ∷ [] }
-{
-    simplex_of(&[label])
 }
 
 /// The pairs of members at the same places.

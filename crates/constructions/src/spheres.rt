@@ -8,8 +8,8 @@ ghost use Rattle.constructions.specs.Spheres.{bdsimplex, bdcross, sphere_tests};
 ghost use Rattle.constructions.specs.declared.make_fault.MakeFault.TheVariants as fault;
 
 use crate::MakeFault;
-use crate::sets::{point, simplex_of};
-use facet_set::Facets;
+use crate::sets::simplex_of;
+use facet_set::{Facets, point};
 use simplex::{LEN_LIMIT, Memory, Simplex};
 use std::alloc::{AllocError, Global};
 

@@ -1,4 +1,3 @@
 pub mod CellLaws
-pub mod FaceNumbers
 pub mod KeyLaws
 pub mod PutLaws

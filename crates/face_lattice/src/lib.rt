@@ -5,8 +5,6 @@ mod cell;
 mod cells;
 mod lattice;
 mod laws;
-#[cfg(test)]
-mod tests;
 
 pub use lattice::Lattice;
 pub use laws::{faces_lie_in_facets, no_facet_no_face};

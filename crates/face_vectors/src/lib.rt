@@ -6,8 +6,6 @@ mod choose;
 mod counts;
 mod laws;
 mod row;
-#[cfg(test)]
-mod tests;
 mod vectors;
 
 pub use counts::{COUNT_LIMIT, Counts};

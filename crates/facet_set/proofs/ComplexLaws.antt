@@ -1,31 +1,26 @@
 -- Laws of complexes.
 use Rattle.std.proofs.Common.{◌≡◌, ℕ, Bool, true, false, not, ◌&&◌, ◌||◌, List, [], ◌∷◌, map, refl, sym, ap, ◌∙◌, subst, inl, inr, arith}
 use mathlib.Core.Bool.{true≢false}
-use Rattle.std.specs.Ordering.{is_eq, nat_cmp}
-use Rattle.std.specs.declared.cmp.Ordering.{Ordering}
-use Rattle.std.specs.declared.cmp.Ordering.TheVariants.{Less, Equal, Greater}
+use Rattle.std.specs.Ordering.{nat_cmp}
 use Rattle.std.specs.List.{list_any, list_all, filter, flat_map}
 use Rattle.std.specs.FinMap.{IsAntisymmetric, nat_cmp-IsAntisymmetric, slice_cmp-IsAntisymmetric}
-use Rattle.std.proofs.lemmas.Cmp.{nat_list_cmp_total}
+use Rattle.std.proofs.lemmas.Cmp.{nat_cmp_total, nat_list_cmp_total}
 use Rattle.simplex.specs.InOrder.{is_increasing}
-use Rattle.simplex.specs.Simplex.{is_within, simplex_cmp, is_same, subsets}
-use Rattle.simplex.proofs.InOrderLaws.{and_left, and_right, and_both, is_increasing-in_order, itself}
-use Rattle.simplex.proofs.SimplexLaws.{within_in, in_within, above_at, rest_increasing, front_increasing, within_itself, within_trans, same_labels}
+use Rattle.simplex.specs.Simplex.{is_simplex, is_within, simplex_cmp, is_same, subsets, without}
+use Rattle.simplex.proofs.Filled.{rising_of}
+use Rattle.simplex.proofs.InOrderLaws.{and_left, and_right, and_both, is_increasing-in_order, itself, equal_is}
+use Rattle.simplex.proofs.SimplexLaws.{is_increasing-filter, within_in, in_within, above_at, rest_increasing, front_increasing, within_itself, within_trans, same_labels}
 use Rattle.simplex.proofs.Members.{In, first, later, cases, at_head, none, any_from, any_at, all_at, all_from, in_filter, from_filter, in_map, from_map, in_left, in_right, in_either, in_flat_map, from_flat_map, in_order_in, from_in_order, same_sets}
+use Rattle.simplex.proofs.Decided.{agree, false_from, not_true}
 use Rattle.facet_set.specs.Parts.{faces_where}
-use Rattle.facet_set.specs.Complex.{simplices, is_proper_face, is_maximal_in, generated, is_complex, is_face, faces}
+use Rattle.facet_set.specs.Complex.{verts, simplices, is_proper_face, is_maximal_in, generated, is_complex, is_face, faces}
 
 -- simplices that compare alike are one
 pub exact : IsAntisymmetric simplex_cmp
 exact = slice_cmp-IsAntisymmetric nat_cmp-IsAntisymmetric
 
-tie : (r : Ordering) → is_eq r ≡ true → r ≡ Equal
-tie Less h = cc
-tie Equal h = refl
-tie Greater h = cc
-
 pub same_from : (s t : List ℕ) → is_same s t ≡ true → s ≡ t
-same_from s t h = exact s t (tie _ h)
+same_from s t h = exact s t (equal_is _ h)
 
 pub same_itself : (s : List ℕ) → is_same s s ≡ true
 same_itself s = itself nat_list_cmp_total s
@@ -36,16 +31,8 @@ in_simplices s l i = in_order_in nat_list_cmp_total exact s l i
 pub from_simplices : (s : List ℕ) (l : List (List ℕ)) → In s (simplices l) → In s l
 from_simplices s l i = from_in_order nat_list_cmp_total exact s l i
 
-not_true : (v : Bool) → not v ≡ true → v ≡ false
-not_true true h = sym h
-not_true false h = refl
-
 true_not : (v : Bool) → v ≡ false → not v ≡ true
 true_not v h = ap not h
-
-false_from : (v : Bool) → (v ≡ true → ⊥) → v ≡ false
-false_from true f = absurd (f refl)
-false_from false f = refl
 
 -- no member lies properly in another
 pub maximal_at : (l : List (List ℕ)) (s t : List ℕ) → is_maximal_in l s ≡ true → In t l → is_proper_face s t ≡ false
@@ -93,6 +80,16 @@ face_from c s t i h = any_from (is_within s) t c i h
 abbrev pub is_set : List ℕ → Bool
 is_set = is_increasing nat_cmp
 
+-- simplices are sets
+pub without_set : (s : List ℕ) (a : ℕ) → is_set s ≡ true → is_set (without s a) ≡ true
+without_set s a h = is_increasing-filter nat_cmp _ s h
+
+pub verts_increase : (c : List (List ℕ)) → is_increasing nat_cmp (verts c) ≡ true
+verts_increase c = is_increasing-in_order nat_cmp_total (flat_map (λ s. s) c)
+
+pub sets_of : (c : List (List ℕ)) → list_all is_simplex c ≡ true → list_all is_set c ≡ true
+sets_of c h = all_from is_set c (λ s i. rising_of s (all_at is_simplex s c h i))
+
 sets_at : (l : List (List ℕ)) (s : List ℕ) → list_all is_set l ≡ true → In s l → is_set s ≡ true
 sets_at l s h i = all_at is_set s l h i
 
@@ -125,11 +122,6 @@ is_face-generated l s h = agree _ _
     (λ a. let r = face_at (generated l) s a in face_from l s r.0 (from_generated r.0 l r.1).0 r.2)
     (λ a. let r = face_at l s a in let top = climb l l h (λ x i. i) r.0 r.1 in
     face_from (generated l) s top.0 (in_generated top.0 l top.1 top.3) (within_trans s r.0 top.0 r.2 top.2))
-  where
-    agree : (v w : Bool) → (v ≡ true → w ≡ true) → (w ≡ true → v ≡ true) → v ≡ w
-    agree true w f g = sym (f refl)
-    agree false true f g = g refl
-    agree false false f g = refl
 
 -- a complex is known by its faces: one half
 half_same : (c d : List (List ℕ)) → list_all is_set c ≡ true → list_all is_set d ≡ true → is_complex c ≡ true → ((s : List ℕ) → is_set s ≡ true → is_face c s ≡ is_face d s) → (s : List ℕ) → In s c → In s d
@@ -212,8 +204,3 @@ is_face-faces_where test c h down s k =
 
     sets : list_all is_set family ≡ true
     sets = all_from is_set family (λ t i. (from_faces c t h (from_filter test t (faces c) i).0).0)
-
-    agree : (v w : Bool) → (v ≡ true → w ≡ true) → (w ≡ true → v ≡ true) → v ≡ w
-    agree true w f g = sym (f refl)
-    agree false true f g = g refl
-    agree false false f g = refl

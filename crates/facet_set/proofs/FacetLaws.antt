@@ -1,5 +1,5 @@
 -- What the readings of a list of facets come to.
-use Rattle.std.proofs.Common.{◌≡◌, ℕ, zero, suc, ◌<◌, Bool, true, false, ltb, List, [], ◌∷◌, length, get_or, refl, sym, ap, ◌∙◌, subst, arith, add-one}
+use Rattle.std.proofs.Common.{◌≡◌, ℕ, zero, suc, ◌<◌, true, false, ltb, List, [], ◌∷◌, ◌++◌, length, get_or, refl, sym, ap, ◌∙◌, subst, inl, inr, arith, add-one}
 use mathlib.Core.Bool.{true≢false}
 use Rattle.std.specs.Bool.{IsTrue}
 use Rattle.std.specs.Prelude.{Result, Ok, Err, is_ok}
@@ -15,15 +15,12 @@ use Rattle.std.proofs.lemmas.Bool.Decides.{nat_tests}
 use Rattle.simplex.specs.InOrder.{is_increasing}
 use Rattle.simplex.specs.Simplex.{is_simplex, simplex_cmp}
 use Rattle.simplex.proofs.InOrderLaws.{and_left, and_right, and_both, itself}
-use Rattle.simplex.proofs.Members.{In, later, at_head, in_contains, is_member_from, is_member_at, all_at, all_from, from_filter}
+use Rattle.simplex.proofs.Members.{In, first, later, in_either, at_head, in_contains, is_member_from, is_member_at, all_at, all_from, from_filter}
+use Rattle.simplex.proofs.Decided.{false_from}
 use Rattle.facet_set.specs.Complex.{simplices, stands_in, generated, is_maximal_in, is_complex}
 use Rattle.facet_set.specs.Facets.{IsFacets}
 use Rattle.facet_set.proofs.ComplexLaws.{exact, is_complex-generated, generated_again}
 use Rattle.facet_set.proofs.GeneratedLaws.{same, same_at, same_is, generated_is}
-
-false_from : (v : Bool) → (v ≡ true → ⊥) → v ≡ false
-false_from true f = absurd (f refl)
-false_from false f = refl
 
 -- ---- what is generated
 pub generated_items : (list m items : List (List ℕ)) → m ≡ simplices list → items ≡ filter (is_maximal_in m) m → items ≡ generated list
@@ -52,13 +49,29 @@ exact_at list facets e h = let f = lists_at facets list h in (ap is_complex (sym
 pub exact_not : (list facets : List (List ℕ)) → facets ≡ generated list → pointwise same facets list ≡ false → IsTrue (is_complex list) → ⊥
 exact_not list facets e h k = true≢false (sym (ap (λ l. pointwise same l list) (e ∙ generated_again list k) ∙ lists_itself list) ∙ h)
 
+-- ---- lists in increasing order
+pub rising_join : (xs ys : List (List ℕ)) → is_increasing simplex_cmp xs ≡ true → is_increasing simplex_cmp ys ≡ true → ((x y : List ℕ) → In x xs → In y ys → is_lt (simplex_cmp x y) ≡ true) → is_increasing simplex_cmp (xs ++ ys) ≡ true
+rising_join [] ys h k f = k
+rising_join (x ∷ xs) ys h k f =
+    and_both _ _ (all_from (λ y. is_lt (simplex_cmp x y)) (xs ++ ys) (λ y i. elim (in_either y xs ys i) [
+      | inl j ↦ all_at (λ y. is_lt (simplex_cmp x y)) y xs (and_left _ _ h) j
+      | inr j ↦ f x y first j
+    ]))
+    (rising_join xs ys (and_right (list_all (λ y. is_lt (simplex_cmp x y)) xs) _ h) k (λ y z i j. f y z (later i) j))
+
 -- ---- binary search
 in_at : (c : List (List ℕ)) (k : ℕ) (s : List ℕ) → k < length c → get_or c k s ≡ s → In s c
 in_at [] k s h e = absurd (omega arith)
 in_at (t ∷ c) zero s h e = at_head s t c (sym e)
 in_at (t ∷ c) (suc k) s h e = later (in_at c k s (omega arith) e)
 
-not_less : (s t : List ℕ) → is_lt (simplex_cmp s t) ≡ true → is_lt (simplex_cmp t s) ≡ false
+pub not_below_itself : (s : List ℕ) → is_lt (simplex_cmp s s) ≡ true → ⊥
+not_below_itself s h = true≢false (sym h ∙ ap is_lt (tied_itself nat_list_cmp_total s))
+
+pub below_apart : (s t : List ℕ) → is_lt (simplex_cmp s t) ≡ true → s ≡ t → ⊥
+below_apart s t h e = not_below_itself s (ap (λ x. is_lt (simplex_cmp s x)) e ∙ h)
+
+pub not_less : (s t : List ℕ) → is_lt (simplex_cmp s t) ≡ true → is_lt (simplex_cmp t s) ≡ false
 not_less s t h = false_from _ (λ k. clash (sym (tied_itself nat_list_cmp_total s) ∙ nat_list_cmp_total.trans s t s (less _ h) (less _ k)))
   where
     less : (r : Ordering) → is_lt r ≡ true → r ≡ Less
@@ -69,13 +82,13 @@ not_less s t h = false_from _ (λ k. clash (sym (tied_itself nat_list_cmp_total 
     clash : Equal ≡ Less → ⊥
     clash e = cc
 
-adjacent : (c : List (List ℕ)) (k : ℕ) (d : List ℕ) → is_increasing simplex_cmp c ≡ true → suc k < length c → is_lt (simplex_cmp (get_or c (suc k) d) (get_or c k d)) ≡ false
+pub adjacent : (c : List (List ℕ)) (k : ℕ) (d : List ℕ) → is_increasing simplex_cmp c ≡ true → suc k < length c → is_lt (simplex_cmp (get_or c (suc k) d) (get_or c k d)) ≡ false
 adjacent [] k d h n = absurd (omega arith)
 adjacent (x ∷ []) k d h n = absurd (omega arith)
 adjacent (x ∷ y ∷ c) zero d h n = not_less x y (and_left (is_lt (simplex_cmp x y)) _ (and_left _ _ h))
 adjacent (x ∷ y ∷ c) (suc k) d h n = adjacent (y ∷ c) k d (and_right (list_all (λ z. is_lt (simplex_cmp x z)) (y ∷ c)) _ h) (omega arith)
 
-sorted : (c : List (List ℕ)) → is_increasing simplex_cmp c ≡ true → IsSortedBy (λ a b. is_lt (simplex_cmp a b)) c
+pub sorted : (c : List (List ℕ)) → is_increasing simplex_cmp c ≡ true → IsSortedBy (λ a b. is_lt (simplex_cmp a b)) c
 sorted c h = λ k d z n. ap (λ j. is_lt (simplex_cmp (get_or c j d) (get_or c k d))) (add-one k) ∙ adjacent c k d h (omega arith)
 
 pub found_is : (c : List (List ℕ)) (s : List ℕ) (r : Result ℕ ℕ) → is_increasing simplex_cmp c ≡ true → IsSearchInRange r (length c) → IsBinarySearchResult (λ y. simplex_cmp y s) c r → is_ok r ≡ stands_in c s

@@ -2,14 +2,14 @@
 use Rattle.std.proofs.Common.{◌≡◌, ℕ, suc, ◌+◌, ◌≤◌, ◌<◌, Bool, true, false, not, cond, ◌&&◌, List, [], ◌∷◌, ◌++◌, map, length, refl, sym, ap, ◌∙◌, subst, ◌⊎◌, inl, inr, arith, ltb, leb}
 use mathlib.Core.Bool.{true≢false}
 use Rattle.std.specs.Prelude.{◌==◌}
-use Rattle.std.specs.Ordering.{is_eq, nat_cmp, match_ordering}
+use Rattle.std.specs.Ordering.{is_eq, nat_cmp}
 use Rattle.std.specs.declared.cmp.Ordering.{Ordering}
 use Rattle.std.specs.declared.cmp.Ordering.TheVariants.{Less, Equal, Greater}
 use Rattle.std.specs.List.{list_all, filter}
 use Rattle.std.specs.FinMap.{nat_cmp-IsAntisymmetric, slice_cmp-IsAntisymmetric}
 use Rattle.std.proofs.lemmas.Cmp.{nat_cmp_total, nat_list_cmp_total, lists_total}
 use Rattle.std.proofs.lemmas.Bool.Decides.{nat_tests}
-use Rattle.simplex.specs.InOrder.{is_increasing, put, in_order}
+use Rattle.simplex.specs.InOrder.{is_increasing, in_order}
 use Rattle.simplex.specs.Simplex.{is_within, is_disjoint, union, without, simplex_cmp, is_same, is_simplex, is_label, len_limit}
 use Rattle.simplex.proofs.InOrderLaws.{and_left, and_right, and_both, is_increasing-in_order, in_order_again, itself}
 use Rattle.simplex.proofs.SimplexLaws.{within_same, is_increasing-union, within_in, in_within, in_union, from_union, from_without, disjoint_at, disjoint_from, above_at, rest_increasing, is_increasing-filter}
@@ -19,40 +19,26 @@ use Rattle.facet_set.specs.Numbers.{size, is_pure}
 use Rattle.simplex.specs.declared.flip.Flip.{Flip}
 use Rattle.facet_set.specs.Flips.{allowed, flip, ball, same_facets, goes, after, undoing}
 use Rattle.simplex.specs.Flip.{inverse}
+use Rattle.simplex.proofs.Decided.{false_from, false_at}
 use Rattle.facet_set.specs.FlipsBack.{FlipsBack}
 use Rattle.facet_set.proofs.ComplexLaws.{exact, is_set, maximal_from, same_itself, in_simplices, from_simplices, face_at, face_from}
-
-false_from : (v : Bool) → (v ≡ true → ⊥) → v ≡ false
-false_from true f = absurd (f refl)
-false_from false f = refl
-
-false_at : (v : Bool) → v ≡ false → v ≡ true → ⊥
-false_at v h k = true≢false (sym k ∙ h)
+use Rattle.facet_set.proofs.Counting.{count-put}
 
 -- ---- lengths
-
-length-put : (x : ℕ) (ys : List ℕ) → (In x ys → ⊥) → length (put nat_cmp x ys) ≡ suc (length ys)
-length-put x [] f = refl
-length-put x (y ∷ ys) f =
-    elim (nat_cmp x y) as (λ r. nat_cmp x y ≡ r → length (match_ordering r (x ∷ y ∷ ys) (y ∷ ys) (y ∷ put nat_cmp x ys)) ≡ suc (suc (length ys))) [
-      | Less ↦ λ e. refl
-      | Equal ↦ λ e. absurd (f (at_head x y ys (nat_cmp-IsAntisymmetric x y e)))
-      | Greater ↦ λ e. ap suc (length-put x ys (λ i. f (later i)))
-    ] refl
 
 pub length-union : (s t : List ℕ) → is_set s ≡ true → is_set t ≡ true → is_disjoint s t ≡ true → length (union s t) ≡ length s + length t
 length-union [] t h k d = ap length (in_order_again nat_cmp_total nat_cmp-IsAntisymmetric t k) ∙ omega arith
 length-union (a ∷ s) t h k d =
     let fresh : In a (in_order nat_cmp (s ++ t)) → ⊥ = λ i. elim (from_union s t a i) [ inl j ↦ (let l = above_at a s a h j in omega arith) | inr j ↦ disjoint_at (a ∷ s) t a d first j ] in
     let rest : is_disjoint s t ≡ true = disjoint_from s t (λ b i j. disjoint_at (a ∷ s) t b d (later i) j) in
-    length-put a (in_order nat_cmp (s ++ t)) fresh ∙ ap suc (length-union s t (rest_increasing a s h) k rest) ∙ omega arith
+    count-put nat_cmp_total nat_cmp-IsAntisymmetric a (in_order nat_cmp (s ++ t)) fresh ∙ ap suc (length-union s t (rest_increasing a s h) k rest) ∙ omega arith
 
-filter_keeps : (x : ℕ) (s : List ℕ) → (In x s → ⊥) → without s x ≡ s
-filter_keeps x [] f = refl
-filter_keeps x (y ∷ s) f =
+pub without_none : (x : ℕ) (s : List ℕ) → (In x s → ⊥) → without s x ≡ s
+without_none x [] f = refl
+without_none x (y ∷ s) f =
     elim (x == y) as (λ v. (x == y) ≡ v → cond (not v) (y ∷ without s x) (without s x) ≡ y ∷ s) [
       | true ↦ λ e. absurd (f (at_head x y s (grind (arith, nat_tests))))
-      | false ↦ λ e. ap (λ u. y ∷ u) (filter_keeps x s (λ i. f (later i)))
+      | false ↦ λ e. ap (λ u. y ∷ u) (without_none x s (λ i. f (later i)))
     ] refl
 
 pub length-without : (x : ℕ) (s : List ℕ) → is_set s ≡ true → In x s → length (without s x) + 1 ≡ length s
@@ -60,7 +46,7 @@ length-without x [] h i = absurd (none x i)
 length-without x (y ∷ s) h i =
     elim (x == y) as (λ v. (x == y) ≡ v → length (cond (not v) (y ∷ without s x) (without s x)) + 1 ≡ suc (length s)) [
       | true ↦ λ e. let same : x ≡ y = grind (arith, nat_tests) in
-          ap (λ u. length u + 1) (filter_keeps x s (λ j. let l = above_at y s x h j in omega arith)) ∙ omega arith
+          ap (λ u. length u + 1) (without_none x s (λ j. let l = above_at y s x h j in omega arith)) ∙ omega arith
       | false ↦ λ e. elim (cases i) [ inl f ↦ absurd (differ f e) | inr j ↦ let r = length-without x s (rest_increasing y s h) j in omega arith ]
     ] refl
   where
@@ -187,7 +173,7 @@ in_flip c a b t i =
       | inr j ↦ in_right t (filter (λ s. not (is_within a s)) c) (ball b a) j
     ])
 
-some_label : (s : List ℕ) → 0 < length s → (x : ℕ) × In x s
+pub some_label : (s : List ℕ) → 0 < length s → (x : ℕ) × In x s
 some_label [] h = absurd (omega arith)
 some_label (x ∷ s) h = (x, first)
 
@@ -318,11 +304,11 @@ module _ (c : List (List ℕ)) (a b : List ℕ) (simple : list_all is_simplex c 
 abbrev is_flip : Flip → Bool
 is_flip m = is_simplex m.a && is_simplex m.b
 
-goes-append : (c : List (List ℕ)) (l m : List Flip) → goes c l ≡ true → goes (after c l) m ≡ true → goes c (l ++ m) ≡ true
+pub goes-append : (c : List (List ℕ)) (l m : List Flip) → goes c l ≡ true → goes (after c l) m ≡ true → goes c (l ++ m) ≡ true
 goes-append c [] m h k = k
 goes-append c (f ∷ l) m h k = and_both _ _ (and_left _ _ h) (goes-append (flip c f.a f.b) l m (and_right (allowed c f.a f.b) _ h) k)
 
-after-append : (c : List (List ℕ)) (l m : List Flip) → after c (l ++ m) ≡ after (after c l) m
+pub after-append : (c : List (List ℕ)) (l m : List Flip) → after c (l ++ m) ≡ after (after c l) m
 after-append c [] m = refl
 after-append c (f ∷ l) m = after-append (flip c f.a f.b) l m
 

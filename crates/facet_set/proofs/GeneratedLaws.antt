@@ -19,6 +19,7 @@ use Rattle.simplex.proofs.SimplexLaws.{list_any-append, is_increasing-filter, wi
 use Rattle.simplex.proofs.FaultLaws.{increasing_from_sorted}
 use Rattle.simplex.proofs.Filled.{rising_of}
 use Rattle.simplex.proofs.SubsetLaws.{subset_within, number_of, one_number, full_subset}
+use Rattle.simplex.proofs.Decided.{agree, false_from, or_right}
 use Rattle.facet_set.specs.Complex.{simplices, is_proper_face, is_maximal_in, generated}
 use Rattle.facet_set.proofs.ComplexLaws.{exact, same_from, same_itself, in_simplices, from_simplices, in_generated, from_generated, maximal_at, maximal_from}
 
@@ -35,15 +36,6 @@ same_at s t h = (bytes_decides s t).0 h
 
 pub same_is : (s t : List ℕ) → same s t ≡ is_same s t
 same_is s t = texts_ties s t
-
-false_from : (v : Bool) → (v ≡ true → ⊥) → v ≡ false
-false_from true f = absurd (f refl)
-false_from false f = refl
-
-agree : (v w : Bool) → (v ≡ true → w ≡ true) → (w ≡ true → v ≡ true) → v ≡ w
-agree true w f g = sym (f refl)
-agree false true f g = g refl
-agree false false f g = refl
 
 -- ---- a list that is sorted and freed of repeats
 pub in_order_is : (list sorted : List (List ℕ)) → IsPermutation list sorted → IsSorted simplex_cmp sorted → dedup same sorted ≡ simplices list
@@ -84,7 +76,7 @@ no_face s t h k n =
     let l = within_length t s (rising_of t k) (rising_of s h) q.0 in
     q.1 (within_same t s (rising_of t k) (rising_of s h) q.0 (omega arith)))
 
-reached_at : (s : List ℕ) (n : ℕ) (t : List ℕ) → is_reached s n t ≡ true → (m : ℕ) × (m < n) × (t ≡ subset_at s m)
+pub reached_at : (s : List ℕ) (n : ℕ) (t : List ℕ) → is_reached s n t ≡ true → (m : ℕ) × (m < n) × (t ≡ subset_at s m)
 reached_at s zero t h = cc
 reached_at s (suc n) t h =
     elim (is_reached s n t) as (λ v. is_reached s n t ≡ v → (v || same t (subset_at s n)) ≡ true → (m : ℕ) × (m < suc n) × (t ≡ subset_at s m)) [
@@ -92,7 +84,7 @@ reached_at s (suc n) t h =
       | false ↦ λ e k. (n, omega arith, same_at t (subset_at s n) k)
     ] refl h
 
-reached_from : (s : List ℕ) (n : ℕ) (t : List ℕ) (m : ℕ) → m < n → subset_at s m ≡ t → is_reached s n t ≡ true
+pub reached_from : (s : List ℕ) (n : ℕ) (t : List ℕ) (m : ℕ) → m < n → subset_at s m ≡ t → is_reached s n t ≡ true
 reached_from s zero t m h e = absurd (omega arith)
 reached_from s (suc n) t m h e =
     elim (eqb m n) as (λ v. eqb m n ≡ v → (is_reached s n t || same t (subset_at s n)) ≡ true) [
@@ -101,10 +93,6 @@ reached_from s (suc n) t m h e =
           or_right (is_reached s n t) (same t (subset_at s n)) (ap (same t) (sym (ap (subset_at s) f) ∙ e) ∙ same_is t t ∙ same_itself t)
       | false ↦ λ q. let f : m < n = grind (arith, nat_tests) in ap (λ v. v || same t (subset_at s n)) (reached_from s n t m f e)
     ] refl
-  where
-    or_right : (v w : Bool) → w ≡ true → (v || w) ≡ true
-    or_right true w k = refl
-    or_right false w k = k
 
 -- the numbers below the last one have just the proper faces
 pub reached_is : (s t : List ℕ) (n : ℕ) → IsTrue (is_simplex s) → IsTrue (is_simplex t) → n + 1 ≡ 2 ^ length s → is_reached s n t ≡ is_proper_face t s

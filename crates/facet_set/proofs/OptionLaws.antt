@@ -12,6 +12,7 @@ use Rattle.simplex.specs.Simplex.{has, union, without}
 use Rattle.simplex.proofs.InOrderLaws.{and_left, and_right, is_increasing-in_order}
 use Rattle.simplex.proofs.SimplexLaws.{in_union, from_union, in_without, from_without, disjoint_at, above_at, is_increasing-filter, has_at, has_from}
 use Rattle.simplex.proofs.Members.{In, first, later, cases, none, in_filter, from_filter, in_flat_map, from_flat_map, in_order_in, from_in_order, same_sets}
+use Rattle.simplex.proofs.Decided.{equal_at}
 use Rattle.facet_set.specs.Complex.{facets_with, verts}
 use Rattle.facet_set.specs.Numbers.{size, faces_of_size}
 use Rattle.facet_set.specs.Flips.{allowed, link_vertices, option_of, options, counterpart}
@@ -79,13 +80,10 @@ pub given : {X : Type 0} (t : Bool) (x y : X) → cond t (Some x) None ≡ Some 
 given true x y e = (refl, cc)
 given false x y e = cc
 
-number : (x y : ℕ) → (x == y) ≡ true → x ≡ y
-number x y e = grind (arith, nat_tests)
-
 -- an option is an allowed flip of its class
 pub from_options : (c : List (List ℕ)) (i : ℕ) (m : Flip) → In m (options c i) → (allowed c m.a m.b ≡ true) × (length m.b ≡ i + 1)
 from_options c i m j =
     let r = from_filter_map (option_of c i) m (faces_of_size c (size c - i)) j in
     let b = counterpart c i r.0 in
     let q = given (allowed c r.0 b && (length b == i + 1)) (record { a = r.0; b = b }) m r.2 in
-    subst (λ (m : Flip). (allowed c m.a m.b ≡ true) × (length m.b ≡ i + 1)) q.1 (and_left _ _ q.0, number (length b) (i + 1) (and_right (allowed c r.0 b) _ q.0))
+    subst (λ (m : Flip). (allowed c m.a m.b ≡ true) × (length m.b ≡ i + 1)) q.1 (and_left _ _ q.0, equal_at (length b) (i + 1) (and_right (allowed c r.0 b) _ q.0))

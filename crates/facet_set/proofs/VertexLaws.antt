@@ -1,5 +1,5 @@
 -- The labels of lists of simplices: their number, the greatest, and the least that is missing.
-use Rattle.std.proofs.Common.{◌≡◌, ℕ, suc, ◌+◌, ◌≤◌, ◌<◌, Bool, true, false, not, cond, eqb, ltb, List, [], ◌∷◌, ◌++◌, length, take, drop, get_or, max, refl, sym, ap, ◌∙◌, subst, ◌⊎◌, inl, inr, arith, add-one}
+use Rattle.std.proofs.Common.{◌≡◌, ℕ, suc, ◌+◌, ◌≤◌, ◌<◌, true, false, not, cond, eqb, ltb, List, [], ◌∷◌, ◌++◌, length, take, drop, get_or, max, refl, sym, ap, ◌∙◌, subst, ◌⊎◌, inl, inr, arith, add-one}
 use mathlib.Core.Bool.{true≢false}
 use Rattle.std.specs.List.{list_any, list_all, filter, flat_map, fold, dedup}
 use Rattle.std.specs.List.Sorted.{IsPermutation, IsSorted}
@@ -20,6 +20,7 @@ use Rattle.simplex.proofs.Filled.{labels_of}
 use Rattle.simplex.proofs.InOrderLaws.{is_increasing-in_order}
 use Rattle.simplex.proofs.Members.{In, first, later, cases, at_head, none, any_from, any_at, all_at, all_from, in_filter, from_filter, in_left, in_right, in_either, in_contains, contains_in, in_order_in, from_in_order, same_sets}
 use Rattle.simplex.proofs.SimplexLaws.{has_at, has_from, in_union, from_union, is_increasing-union, is_increasing-filter, disjoint_from}
+use Rattle.simplex.proofs.Decided.{eqb_equal}
 use Rattle.facet_set.specs.Complex.{verts}
 use Rattle.facet_set.specs.Numbers.{greatest}
 use Rattle.facet_set.specs.Flips.{least_missing}
@@ -39,9 +40,6 @@ labels_more c i s h e =
     append-nil (x ∷ l) = ap (λ k. x ∷ k) (append-nil l)
 
 -- ---- a list of labels that is sorted and freed of repeats
-equal : (a b : ℕ) → eqb a b ≡ true → a ≡ b
-equal a b h = grind (arith, nat_tests)
-
 ties : (a b : ℕ) → eqb a b ≡ eq_by_cmp nat_cmp a b
 ties a b = grind (arith, nat_tests)
 
@@ -51,7 +49,7 @@ sorted_labels list sorted p s =
     (increasing_from_sorted nat_cmp (dedup eqb sorted) (IsStrictlySortedBy-dedup nat_cmp_total ties sorted s))
     (is_increasing-in_order nat_cmp_total list)
     (λ q i. in_order_in nat_cmp_total nat_cmp-IsAntisymmetric q list (contains_in list q (Contains-permutation sorted list q (IsPermutation-sym list sorted p) (Contains-from_dedup eqb sorted q (in_contains (dedup eqb sorted) q i)))))
-    (λ q i. contains_in (dedup eqb sorted) q (Contains-dedup nat_eq_equiv equal sorted q (Contains-permutation list sorted q p (in_contains list q (from_in_order nat_cmp_total nat_cmp-IsAntisymmetric q list i)))))
+    (λ q i. contains_in (dedup eqb sorted) q (Contains-dedup nat_eq_equiv eqb_equal sorted q (Contains-permutation list sorted q p (in_contains list q (from_in_order nat_cmp_total nat_cmp-IsAntisymmetric q list i)))))
 
 pub verts_labels : (c : List (List ℕ)) → list_all is_simplex c ≡ true → list_all is_label (verts c) ≡ true
 verts_labels c h = all_from is_label (verts c) (λ x i. let r = from_verts c x i in all_at is_label x r.0 (labels_of r.0 (all_at is_simplex r.0 c h r.1)) r.2)
@@ -103,10 +101,6 @@ greatest_is c =
 -- ---- the number of labels
 abbrev pub new_labels : List (List ℕ) → List ℕ → List ℕ
 new_labels c s = filter (λ a. not (list_any (λ t. has t a) c)) s
-
-lacks : (v : Bool) → (v ≡ true → ⊥) → not v ≡ true
-lacks true f = absurd (f refl)
-lacks false f = refl
 
 pub verts_more : (c : List (List ℕ)) (s : List ℕ) → is_set s ≡ true → length (verts (c ++ s ∷ [])) ≡ length (verts c) + length (new_labels c s)
 verts_more c s h =

@@ -10,3 +10,4 @@ pub mod Maps
 pub mod Numbers
 pub mod OptionLaws
 pub mod Parts
+pub mod Star

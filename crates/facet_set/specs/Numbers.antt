@@ -22,6 +22,10 @@ is_pure (s ∷ c) = list_all (λ t. length t == size (s ∷ c)) (s ∷ c)
 abbrev pub weight : List (List ℕ) → ℕ
 weight c = length c * 2 ^ size c
 
+-- the greatest weight of what is held: of all complexes with names, and of one on a walk. It is own
+abbrev pub weight_limit : ℕ
+weight_limit = 8388608
+
 -- the faces with n labels
 abbrev pub faces_of_size : List (List ℕ) → ℕ → List (List ℕ)
 faces_of_size c n = filter (λ s. length s == n) (faces c)

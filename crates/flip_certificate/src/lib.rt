@@ -12,8 +12,6 @@ mod laws;
 mod line;
 mod line_reading;
 mod reading;
-#[cfg(test)]
-mod tests;
 mod writing;
 
 pub use block::{Block, Blocks};

@@ -12,21 +12,21 @@ use Rattle.simplex.proofs.Filled.{simplex_from, rising_of, short_of}
 use Rattle.simplex.proofs.InOrderLaws.{and_left, and_right, and_both, itself}
 use Rattle.simplex.proofs.Members.{In, first, later, all_from, in_filter, from_filter}
 use Rattle.simplex.proofs.SimplexLaws.{list_all-filter, disjoint_from, has_from}
+use Rattle.simplex.proofs.Decided.{agree, false_from, equal_at, equal_from}
 use Rattle.facet_set.specs.Complex.{is_complex, is_face, faces, facets_with, verts}
 use Rattle.facet_set.specs.Numbers.{size, is_pure, degree, faces_of_size}
 use Rattle.facet_set.specs.Flips.{allowed, ball, same_facets, link_vertices, option_of, options, counterpart}
-use Rattle.facet_set.proofs.ComplexLaws.{from_faces}
+use Rattle.facet_set.specs.Star.{lies_in_join}
+use Rattle.facet_set.proofs.ComplexLaws.{from_faces, sets_of}
 use Rattle.facet_set.proofs.FlipLaws.{parts_of, same_list}
 use Rattle.facet_set.proofs.OptionLaws.{in_verts, link_vertices_is}
 use Rattle.facet_set.proofs.VertexLaws.{verts_labels}
+use Rattle.facet_set.proofs.FaceLaws.{face_simplex}
+use Rattle.facet_set.proofs.StarLaws.{counted_star}
 use Rattle.flip_rules.specs.declared.tally.Tally.{Tally}
 use Rattle.flip_rules.specs.Counts.{OneCounterpart, StarByCounts}
-use Rattle.flip_rules.specs.Star.{lies_in_join}
 use Rattle.flip_rules.specs.Tallies.{fitting, tally_of, kept_at, is_sized, counted, link_at, flip_of, flip_where, option_at}
-use Rattle.flip_rules.proofs.KeyLaws.{face_simplex, sets_of}
-use Rattle.flip_rules.proofs.StarLaws.{counted_star}
 use Rattle.flip_rules.proofs.TallyLaws.{link_rising}
-use Rattle.flip_rules.proofs.Decided.{agree, false_from, number, numbers}
 
 pub off : {X : Type 0} (v : Bool) (x : Option X) → cond (v && false) x None ≡ None
 off true x = refl
@@ -55,7 +55,7 @@ pub none_above : (c : List (List ℕ)) (i : ℕ) → size c ≤ i → [] ≡ opt
 none_above c i h = none_allowed c i (λ a j k.
     let p = (parts_of c a (counterpart c i a) k).sizes.0 in
     let r = from_filter (λ s. length s == size c - i) a (faces c) j in
-    let e = number (length a) (size c - i) r.1 in
+    let e = equal_at (length a) (size c - i) r.1 in
     omega arith)
 
 -- ---- the link vertices of a face
@@ -64,7 +64,7 @@ module _ (c : List (List ℕ)) (simple : list_all is_simplex c ≡ true) (a : Li
   link_simplex n =
       simplex_from (link_vertices c a) n
       (list_all-filter is_label (λ x. not (has a x)) (verts (facets_with c a)) (verts_labels (facets_with c a) (list_all-filter is_simplex (is_within a) c simple)))
-      (link_rising c a)
+      (link_rising (facets_with c a) a)
 
   link_apart : is_disjoint a (link_vertices c a) ≡ true
   link_apart = disjoint_from a (link_vertices c a) (λ x i j. let r = from_filter (λ x. not (has a x)) x (verts (facets_with c a)) j in true≢false (sym r.1 ∙ ap not (has_from a x i)))
@@ -119,14 +119,14 @@ off_size n d b e = by (leb (length b) 12)
 
 on_size : (n d : ℕ) (b : List ℕ) → (length b == n) ≡ true → n ≤ 12 → counted n (min d (2 ^ 64 - 1)) (fitting b) ≡ cond ((d == length b) && true) (Some b) None
 on_size n d b e l =
-    let k : length b ≡ n = number (length b) n e in
+    let k : length b ≡ n = equal_at (length b) n e in
     ap (counted n (min d (2 ^ 64 - 1))) (ap (λ v. cond v (Some b) None) (le-leb (length b) 12 (omega arith)))
     ∙ (λ i. cond (same_degree k i && e i) (Some b) None)
   where
     same_degree : length b ≡ n → (min d (2 ^ 64 - 1) == n) ≡ (d == length b)
     same_degree k = agree _ _
-        (λ h. let m = number (min d (2 ^ 64 - 1)) n h in numbers d (length b) (omega arith))
-        (λ h. let m = number d (length b) h in numbers (min d (2 ^ 64 - 1)) n (omega arith))
+        (λ h. let m = equal_at (min d (2 ^ 64 - 1)) n h in equal_from d (length b) (omega arith))
+        (λ h. let m = equal_at d (length b) h in equal_from (min d (2 ^ 64 - 1)) n (omega arith))
 
 module _ (c : List (List ℕ)) (simple : list_all is_simplex c ≡ true) (cx : is_complex c ≡ true) (pure : is_pure c ≡ true) (few : size c ≤ 12) where
   module _ (j : ℕ) (below : suc j < size c) (kept : List ℕ → Option Tally) (are : (s : List ℕ) → IsTrue (is_sized (record { gone = size c - suc j; come = suc j + 1 }) s) → kept s ≡ kept_at c s) where
@@ -141,14 +141,14 @@ module _ (c : List (List ℕ)) (simple : list_all is_simplex c ≡ true) (cx : i
         b = link_vertices c a
 
         len : length a ≡ size c - suc j
-        len = number (length a) (size c - suc j) size_is
+        len = equal_at (length a) (size c - suc j) size_is
 
         there : link_at (suc j + 1) (kept a) ≡ counted (suc j + 1) (min (degree c a) (2 ^ 64 - 1)) (fitting b)
         there = ap (link_at (suc j + 1)) (are a (ap (λ v. v || (length a == suc j + 1)) size_is) ∙ ap (λ v. cond v (Some (tally_of c a)) None) (and_both _ _ sa fa))
 
         put : (length b == suc j + 1) ≡ true → is_some (kept b) ≡ is_face c b
         put e =
-            let k : length b ≡ suc j + 1 = number (length b) (suc j + 1) e in
+            let k : length b ≡ suc j + 1 = equal_at (length b) (suc j + 1) e in
             ap is_some (are b (either (length b == size c - suc j) e) ∙ ap (λ v. cond (v && is_face c b) (Some (tally_of c b)) None) (link_simplex c simple a (omega (arith, k, few, below)))) ∙ some (is_face c b)
           where
             either : (v : Bool) → (length b == suc j + 1) ≡ true → (v || (length b == suc j + 1)) ≡ true
@@ -161,7 +161,7 @@ module _ (c : List (List ℕ)) (simple : list_all is_simplex c ≡ true) (cx : i
 
         there_too : (length b == suc j + 1) ≡ true → option_of c (suc j) a ≡ cond (((degree c a == length b) && not (is_face c b)) && true) (Some (flip_of a b)) None
         there_too e =
-            let k : length b ≡ suc j + 1 = number (length b) (suc j + 1) e in
+            let k : length b ≡ suc j + 1 = equal_at (length b) (suc j + 1) e in
             let w = allowed_by_counts c simple a cx sa pure (omega (arith, k, few, below)) (omega (arith, len, below)) (omega (arith, k)) (omega (arith, k, len, below)) in
             λ i. cond (w i && e i) (Some (flip_of a b)) None
 
@@ -192,8 +192,8 @@ pub star_by_counts_lem : StarByCounts
 star_by_counts_lem c a i simple cx pure sa la n m =
     let few = size_few c simple in
     let e = star_by_counts c simple a cx sa pure (omega (arith, m, n, la, few)) (omega (arith, n, m)) in (
-      λ p. number (degree c a) (length (link_vertices c a)) (sym e ∙ ap (λ x. same_facets x (ball a (link_vertices c a))) p ∙ itself (lists_total nat_list_cmp_total) (ball a (link_vertices c a))) ∙ m,
-      λ k. same_list (facets_with c a) (ball a (link_vertices c a)) (e ∙ numbers (degree c a) (length (link_vertices c a)) (k ∙ sym m)),
+      λ p. equal_at (degree c a) (length (link_vertices c a)) (sym e ∙ ap (λ x. same_facets x (ball a (link_vertices c a))) p ∙ itself (lists_total nat_list_cmp_total) (ball a (link_vertices c a))) ∙ m,
+      λ k. same_list (facets_with c a) (ball a (link_vertices c a)) (e ∙ equal_from (degree c a) (length (link_vertices c a)) (k ∙ sym m)),
     )
 
 pub one_counterpart_lem : OneCounterpart

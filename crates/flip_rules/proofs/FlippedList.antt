@@ -1,16 +1,13 @@
 -- The list that a flip leaves.
-use Rattle.std.proofs.Common.{◌≡◌, ℕ, ◌+◌, ◌≤◌, Bool, true, false, not, List, [], ◌∷◌, ◌++◌, map, length, get_or, drop, append_assoc, add-one, refl, sym, ap, ◌∙◌, subst, ◌<◌, inl, inr, arith, None}
-use Rattle.std.specs.List.{list_all, filter, zip}
-use Rattle.simplex.proofs.Filled.{rising_of}
-use Rattle.simplex.specs.FirstFailing.{first_failing}
-use Rattle.std.proofs.Math.Seq.{drop-cons}
-use Rattle.std.proofs.lemmas.List.Elements.{Contains-get_or}
+use Rattle.std.proofs.Common.{◌≡◌, ℕ, true, not, List, [], ◌∷◌, ◌++◌, map, refl, ◌∙◌, inl, inr}
+use Rattle.std.specs.List.{list_all, filter}
 use Rattle.simplex.specs.Simplex.{is_within, union, without, is_simplex}
-use Rattle.simplex.proofs.Members.{In, in_left, in_right, in_either, contains_in}
+use Rattle.simplex.proofs.Members.{in_left, in_right, in_either}
+use Rattle.simplex.proofs.Decided.{none_fails, all_pass}
 use Rattle.facet_set.specs.Complex.{generated, is_complex}
 use Rattle.facet_set.specs.Flips.{allowed, ball, flip, flip_parts}
 use Rattle.facet_set.proofs.ComplexLaws.{in_simplices, from_simplices, generated_same, generated_again}
-use Rattle.facet_set.proofs.FlipLaws.{parts_of, complex_after, small, flips_back_lem, length-without}
+use Rattle.facet_set.proofs.FlipLaws.{parts_of, complex_after, flips_back_lem}
 use Rattle.flip_rules.specs.declared.flip_fault.FlipFault.TheVariants.{NotPure, Size, Overlap, Star, Present}
 use Rattle.flip_rules.specs.Undone.{IsUndone}
 
@@ -35,45 +32,7 @@ generated-flip c a b simple cx sa sb ok =
     ])
     ∙ generated_again (flip c a b) (complex_after c a b simple cx sa sb (parts_of c a b ok))
 
--- the two sets of an allowed flip have at most 13 labels
-pub few_labels : (c : List (List ℕ)) (a b : List ℕ) → list_all is_simplex c ≡ true → is_complex c ≡ true → is_simplex a ≡ true → is_simplex b ≡ true → allowed c a b ≡ true → length a + length b ≤ 13
-few_labels c a b simple cx sa sb ok =
-    let p = parts_of c a b ok in
-    let most = small c a b simple cx sa sb p in
-    let n = p.sizes.2 in
-    omega arith
-
--- no test fails exactly where all parts hold
-none_fails : {F : Type 0} (ps : List Bool) (fs : List F) → length ps ≡ length fs → first_failing (zip ps fs) ≡ None → list_all (λ p. p) ps ≡ true
-none_fails [] fs n h = refl
-none_fails (p ∷ ps) [] n h = absurd (omega arith)
-none_fails (true ∷ ps) (f ∷ fs) n h = none_fails ps fs (omega arith) h
-none_fails (false ∷ ps) (f ∷ fs) n h = cc
-
-all_pass : {F : Type 0} (ps : List Bool) (fs : List F) → list_all (λ p. p) ps ≡ true → first_failing (zip ps fs) ≡ None
-all_pass [] fs h = refl
-all_pass (p ∷ ps) [] h = refl
-all_pass (true ∷ ps) (f ∷ fs) h = all_pass ps fs h
-all_pass (false ∷ ps) (f ∷ fs) h = cc
-
 pub undone : IsUndone
 undone c m simple cx sa sb h =
     let back = flips_back_lem c m.a m.b simple cx sa sb (none_fails (flip_parts c m.a m.b) (NotPure ∷ Size ∷ Overlap ∷ Star ∷ Present ∷ []) refl h) in
     (all_pass (flip_parts (flip c m.a m.b) m.b m.a) (NotPure ∷ Size ∷ Overlap ∷ Star ∷ Present ∷ []) back.0, back.1)
-
--- a set without one of its labels, and another set
-pub room : (a b items rest : List ℕ) (i : ℕ) → is_simplex a ≡ true → items ≡ a → i < length items → rest ≡ without a (get_or items i 0) → length a + length b ≤ 13 → length b + length rest ≤ 12
-room a b items rest i h e k f n =
-    let member : In (get_or items i 0) a = subst (λ s. In (get_or items i 0) s) e (contains_in items (get_or items i 0) (Contains-get_or items i 0 k)) in
-    let less : length (without a (get_or items i 0)) + 1 ≡ length a = length-without (get_or items i 0) a (rising_of a h) member in
-    let same : length rest ≡ length (without a (get_or items i 0)) = ap length f in
-    omega arith
-
--- the next member of a list, made from the next label
-pub pushed : (f : ℕ → List ℕ) (a items : List ℕ) (out more whole : List (List ℕ)) (i : ℕ) (next : List ℕ) → items ≡ a → i < length items → next ≡ f (get_or items i 0) → more ≡ out ++ next ∷ []
-    → out ++ map f (drop i a) ≡ whole → more ++ map f (drop (i + 1) a) ≡ whole
-pushed f a items out more whole i next e l m r h =
-    let x : ℕ = get_or a i 0 in
-    let split : drop i a ≡ x ∷ drop (i + 1) a = drop-cons a i 0 (subst (λ s. i < length s) e l) ∙ ap (λ n. x ∷ drop n a) (sym (add-one i)) in
-    ap (λ s. s ++ map f (drop (i + 1) a)) (r ∙ ap (λ t. out ++ t ∷ []) (m ∙ ap (λ s. f (get_or s i 0)) e))
-    ∙ append_assoc out (f x ∷ []) (map f (drop (i + 1) a)) ∙ ap (λ s. out ++ map f s) (sym split) ∙ h

@@ -1,9 +1,4 @@
-pub mod Counting
-pub mod Decided
 pub mod ExchangeLaws
-pub mod FaceNumbers
 pub mod FlippedList
-pub mod KeyLaws
-pub mod StarLaws
 pub mod SubdivisionLaws
 pub mod TallyLaws

@@ -10,16 +10,15 @@ use Rattle.simplex.proofs.Filled.{rising_of, labels_of}
 use Rattle.simplex.proofs.InOrderLaws.{and_left, and_both, is_increasing-in_order}
 use Rattle.simplex.proofs.Members.{In, first, later, cases, none, all_at, in_filter, from_filter, same_sets}
 use Rattle.simplex.proofs.SimplexLaws.{is_increasing-filter, is_increasing-union, within_same, within_itself, within_in, in_within, in_union, from_union, from_without, disjoint_from, same_labels, above_at, rest_increasing}
+use Rattle.simplex.proofs.Decided.{false_from, equal_at, equal_from}
 use Rattle.facet_set.specs.Complex.{is_complex, is_face, faces, facets_with, verts}
 use Rattle.facet_set.specs.Numbers.{size, is_pure, faces_of_size}
 use Rattle.facet_set.specs.Flips.{allowed, ball, fresh, least_missing, option_of, options}
-use Rattle.facet_set.proofs.ComplexLaws.{exact, is_set, face_at, face_from, from_faces, in_faces}
+use Rattle.facet_set.proofs.ComplexLaws.{exact, is_set, face_at, face_from, from_faces, in_faces, sets_of}
 use Rattle.facet_set.proofs.FlipLaws.{Parts, allowed_from, pure_at, in_ball, from_ball}
 use Rattle.facet_set.proofs.OptionLaws.{in_verts, from_verts, given}
 use Rattle.flip_rules.specs.Tallies.{flip_of}
 use Rattle.flip_rules.proofs.ExchangeLaws.{off, filter_map_none}
-use Rattle.flip_rules.proofs.KeyLaws.{sets_of}
-use Rattle.flip_rules.proofs.Decided.{false_from, number, numbers}
 
 differ : (m n : ℕ) → (m == n) ≡ false → m ≡ n → ⊥
 differ m n e f = grind (arith, nat_tests)
@@ -30,7 +29,7 @@ missing n [] h f = (omega arith, λ i. none n i)
 missing n (v ∷ vs) h f =
     elim (n == v) as (λ w. (n == v) ≡ w → (n ≤ cond w (least_missing (n + 1) vs) n) × (In (cond w (least_missing (n + 1) vs) n) (v ∷ vs) → ⊥)) [
       | true ↦ λ e.
-          let k = number n v e in
+          let k = equal_at n v e in
           let r = missing (n + 1) vs (rest_increasing v vs h) (λ u i. let l = above_at v vs u h i in omega arith) in
           let m = r.0 in
           (omega arith, λ i. elim (cases i) [ inl q ↦ absurd (omega arith) | inr j ↦ r.1 j ])
@@ -66,8 +65,8 @@ module _ (c : List (List ℕ)) (simple : list_all is_simplex c ≡ true) where
       let r = from_filter (λ s. length s == size c) s (faces c) i in
       let f = from_faces c s (sets_of c simple) r.0 in
       let t = face_at c s f.1 in
-      subst (λ u. In u c) (sym (within_same s t.0 f.0 (set_at t.0 t.1) t.2 (number (length s) (size c) r.1 ∙ sym (pure_at c t.0 pure t.1)))) t.1)
-      (λ s i. in_filter (λ s. length s == size c) s (faces c) (in_faces c s (sets_of c simple) (set_at s i) (face_from c s s i (within_itself s))) (numbers (length s) (size c) (pure_at c s pure i)))
+      subst (λ u. In u c) (sym (within_same s t.0 f.0 (set_at t.0 t.1) t.2 (equal_at (length s) (size c) r.1 ∙ sym (pure_at c t.0 pure t.1)))) t.1)
+      (λ s i. in_filter (λ s. length s == size c) s (faces c) (in_faces c s (sets_of c simple) (set_at s i) (face_from c s s i (within_itself s))) (equal_from (length s) (size c) (pure_at c s pure i)))
     where
       set_at : (t : List ℕ) → In t c → is_set t ≡ true
       set_at t i = rising_of t (all_at is_simplex t c simple i)

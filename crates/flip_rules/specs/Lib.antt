@@ -1,5 +1,4 @@
 pub mod Counts
-pub mod Star
 pub mod Tallies
 pub mod Tests
 pub mod Undone

@@ -9,8 +9,6 @@ mod listing;
 mod parts;
 mod tallies;
 mod tally;
-#[cfg(test)]
-mod tests;
 
 pub use checking::check;
 pub use flip_fault::FlipFault;

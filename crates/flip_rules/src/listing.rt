@@ -1,14 +1,13 @@
 // All allowed flips of a class.
-ghost use Rattle.std.specs.Prelude.{◌≡◌, ◌<◌, [], ◌∷◌, IsTrue, IfOk, map};
+ghost use Rattle.std.specs.Prelude.{◌≡◌, ◌<◌, IsTrue, IfOk, map};
 ghost use Rattle.std.specs.List.{filter_map};
-ghost use Rattle.simplex.specs.Simplex.{is_label};
 ghost use Rattle.facet_set.specs.Flips.{options};
 ghost use Rattle.facet_set.specs.Numbers.{is_pure, size};
 ghost use Rattle.indexmap.specs.IndexMap.{get};
 ghost use Rattle.flip_rules.specs.Tallies.{same, option_at, flip_of};
 
 use crate::tallies::{Sizes, Tallies, faces_of_size, option_at, tallies_of};
-use facet_set::Facets;
+use facet_set::{Facets, point};
 use simplex::{Flip, Flips, Memory, Simplex};
 use std::alloc::{AllocError, Global};
 
@@ -54,16 +53,6 @@ fn flip_of(a: &Simplex, b: &Simplex) -> Flip
     ensures { result ≡ flip_of a.now b.now }
 {
     Flip { a: *a, b: *b }
-}
-
-fn point(label: u32) -> Simplex
-    requires { IsTrue (is_label label) }
-    ensures { result ≡ label ∷ [] }
-{
-    match Simplex::of(&[label]) {
-        Ok(point) => point,
-        Err(_) => unreachable!(),
-    }
 }
 
 // The options of a class that is not 0.

@@ -4,7 +4,7 @@ ghost use Rattle.simplex.specs.Simplex.{is_simplex, is_disjoint, len_limit};
 ghost use Rattle.facet_set.specs.Complex.{is_complex, facets_with};
 ghost use Rattle.facet_set.specs.Numbers.{is_pure, size};
 ghost use Rattle.facet_set.specs.Flips.{ball, same_facets};
-ghost use Rattle.flip_rules.specs.Star.{lies_in_join, is_counted_star};
+ghost use Rattle.facet_set.specs.Star.{lies_in_join, is_counted_star};
 
 use simplex::{Flip, Simplex};
 

@@ -1,14 +1,15 @@
 -- Which classes have options, and where they are kept.
-use Rattle.std.proofs.Common.{◌≡◌, ℕ, zero, suc, ◌+◌, ◌≤◌, ◌<◌, Bool, true, false, ◌⊎◌, inl, inr, List, [], ◌∷◌, ◌++◌, map, length, get_or, refl, sym, ap, ◌∙◌, arith, Option, Some, None}
+use Rattle.std.proofs.Common.{◌≡◌, ℕ, zero, suc, ◌+◌, ◌≤◌, ◌<◌, true, false, ◌⊎◌, inl, inr, List, [], ◌∷◌, ◌++◌, map, length, get_or, refl, sym, ap, ◌∙◌, arith, Option, Some, None}
 use mathlib.Core.Bool.{true≢false}
 use Rattle.std.specs.Prelude.{slice_get, ◌↔◌}
 use Rattle.std.specs.Option.{IfSome}
-use Rattle.std.specs.List.{list_all, zip, range_with_len}
+use Rattle.std.specs.List.{range_with_len}
 use Rattle.std.proofs.lemmas.List.FromFn.{length-map-range_with_len, get_or-map-range_with_len, map-range_with_len_more}
 use Rattle.std.proofs.lemmas.Option.{slice_get_past}
 use Rattle.simplex.specs.declared.flip.Flip.{Flip}
 use Rattle.simplex.specs.FirstFailing.{first_failing}
 use Rattle.simplex.proofs.Members.{In, first, later, at_head}
+use Rattle.simplex.proofs.Decided.{all_pass}
 use Rattle.facet_set.specs.Numbers.{size, is_pure}
 use Rattle.facet_set.specs.Flips.{options, flip_parts}
 use Rattle.facet_set.proofs.FlipLaws.{parts_of}
@@ -52,13 +53,6 @@ pub list_none : (c : List (List ℕ)) (lists : List (List Flip)) (i : ℕ) → l
 list_none c lists i e h =
     let len : length lists ≡ size c = ap length e ∙ length-map-range_with_len (options c) 0 (size c) in
     no_class c i (omega arith)
-
--- an allowed flip fails no test
-all_pass : {F : Type 0} (ps : List Bool) (fs : List F) → list_all (λ p. p) ps ≡ true → first_failing (zip ps fs) ≡ None
-all_pass [] fs h = refl
-all_pass (p ∷ ps) [] h = refl
-all_pass (true ∷ ps) (f ∷ fs) h = all_pass ps fs h
-all_pass (false ∷ ps) (f ∷ fs) h = cc
 
 got : {X : Type 0} (xs : List X) (n : ℕ) (x : X) → slice_get xs n ≡ Some x → In x xs
 got [] n x e = cc

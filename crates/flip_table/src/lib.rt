@@ -5,8 +5,6 @@ mod next;
 mod option_lists;
 mod session;
 mod stage_fault;
-#[cfg(test)]
-mod tests;
 
 pub use session::Session;
 pub use stage_fault::StageFault;

@@ -1,5 +1,5 @@
 -- Columns, and sets of places at which they add up to nothing: the ranks of both are together at most the number of the columns.
-use Rattle.std.proofs.Common.{◌≡◌, ◌+◌, ◌≤◌, Bool, true, false, ◌||◌, ◌&&◌, cond, List, [], ◌∷◌, ◌++◌, length, map, refl, sym, ap, ◌∙◌, arith, inl, inr}
+use Rattle.std.proofs.Common.{◌≡◌, ◌+◌, ◌≤◌, Bool, true, false, ◌&&◌, cond, List, [], ◌∷◌, ◌++◌, length, map, refl, sym, ap, ◌∙◌, arith, inl, inr}
 use Rattle.std.specs.declared.cmp.Ordering.{Ordering}
 use Rattle.std.specs.Cmp.{IsTotalOrder}
 use Rattle.std.specs.FinMap.{IsAntisymmetric}
@@ -7,9 +7,10 @@ use Rattle.std.specs.List.{list_any}
 use Rattle.std.proofs.lemmas.List.Sorted.{IsPermutation-append_comm}
 use Rattle.simplex.specs.InOrder.{is_member}
 use Rattle.simplex.proofs.Members.{In, cases, from_map, any_from, any_at}
+use Rattle.simplex.proofs.Decided.{false_from, or_left, or_right}
 use Rattle.gf2_rank.specs.Elimination.{cleared}
 use Rattle.gf2_rank.specs.Span.{difference, is_in_span, rank}
-use Rattle.gf2_rank.proofs.SpanLaws.{odd, is_member-difference, rank-pivot}
+use Rattle.gf2_rank.proofs.SpanLaws.{odd, is_member-difference, rank-pivot, odd_comm}
 use Rattle.gf2_rank.proofs.OrderLaws.{span_same, rank-permutation}
 use Rattle.gf2_rank.proofs.RowLaws.{cleared_row, cleared_rows, within}
 
@@ -36,12 +37,6 @@ odd_middle false false true false = refl
 odd_middle false false false true = refl
 odd_middle false false false false = refl
 
-odd_comm : (a b : Bool) → odd a b ≡ odd b a
-odd_comm true true = refl
-odd_comm true false = refl
-odd_comm false true = refl
-odd_comm false false = refl
-
 odd_last : (a b : Bool) → odd (odd a b) b ≡ a
 odd_last true true = refl
 odd_last true false = refl
@@ -59,17 +54,6 @@ odd_and true true false = refl
 odd_and true false true = refl
 odd_and true false false = refl
 odd_and false b c = refl
-
-or_left : (a b : Bool) → a ≡ true → (a || b) ≡ true
-or_left a b h = ap (λ v. v || b) h
-
-or_right : (a b : Bool) → b ≡ true → (a || b) ≡ true
-or_right true b h = refl
-or_right false b h = h
-
-false_from : (v : Bool) → (v ≡ true → ⊥) → v ≡ false
-false_from true f = absurd (f refl)
-false_from false f = refl
 
 pub parity-odd : {X : Type 0} (p r : X → Bool) (xs : List X) → parity (λ x. odd (p x) (r x)) xs ≡ odd (parity p xs) (parity r xs)
 parity-odd p r [] = refl

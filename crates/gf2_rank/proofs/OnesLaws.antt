@@ -10,22 +10,16 @@ use Rattle.std.proofs.lemmas.Bool.Decides.{nat_tests}
 use Rattle.std.proofs.lemmas.List.{get_or_past, get_or-set_same, get_or-set_other, get_or_read}
 use Rattle.std.proofs.lemmas.Nat.Bits.{bit_at-zero, bit_at_xor, bit_at-lt, bit_at_set_same, bit_at_set_other, bit_at-trailing_zeros}
 use Rattle.simplex.specs.InOrder.{is_member, is_increasing, put}
-use Rattle.simplex.proofs.InOrderLaws.{is_increasing-in_order, is_increasing-put, is_member-put, itself, same_members}
-use Rattle.simplex.proofs.Members.{In, cases, none}
-use Rattle.simplex.proofs.SimplexLaws.{is_increasing-filter, front_increasing}
+use Rattle.simplex.proofs.InOrderLaws.{is_increasing-in_order, is_increasing-put, is_member-put, itself, same_members, equal_is}
+use Rattle.simplex.proofs.SimplexLaws.{is_increasing-filter}
+use Rattle.simplex.proofs.Decided.{or_left, or_right}
+use Rattle.simplex.proofs.Ranges.{range_rising}
 use Rattle.gf2_rank.specs.Span.{difference}
 use Rattle.gf2_rank.specs.Ones.{is_one, ones}
-use Rattle.gf2_rank.proofs.SpanLaws.{odd, tie, is_member-filter, is_member-difference}
+use Rattle.gf2_rank.proofs.SpanLaws.{odd, is_member-filter, is_member-difference}
 
 at_or_above : (a q : ℕ) → a ≤ q → (q ≡ a) ⊎ (a + 1 ≤ q)
 at_or_above a q h = elim (ltb a q) as (λ v. ltb a q ≡ v → (q ≡ a) ⊎ (a + 1 ≤ q)) [ true ↦ λ e. inr (grind (arith, nat_tests)) | false ↦ λ e. inl (grind (arith, nat_tests)) ] refl
-
-or_left : (v w : Bool) → v ≡ true → (v || w) ≡ true
-or_left v w h = ap (λ u. u || w) h
-
-or_right : (v w : Bool) → w ≡ true → (v || w) ≡ true
-or_right true w h = refl
-or_right false w h = h
 
 range_member : (a n q : ℕ) → a ≤ q → q < a + n → is_member nat_cmp q (range_with_len a n) ≡ true
 range_member a zero q h k = absurd (omega arith)
@@ -34,14 +28,6 @@ range_member a (suc n) q h k =
       | inl e ↦ or_left (eq_by_cmp nat_cmp q a) (is_member nat_cmp q (range_with_len (a + 1) n)) (ap (eq_by_cmp nat_cmp q) (sym e) ∙ itself nat_cmp_total q)
       | inr above ↦ or_right (eq_by_cmp nat_cmp q a) (is_member nat_cmp q (range_with_len (a + 1) n)) (range_member (a + 1) n q above (omega arith))
     ]
-
-from_range : (a n q : ℕ) → In q (range_with_len a n) → a ≤ q
-from_range a zero q i = absurd (none q i)
-from_range a (suc n) q i = elim (cases i) [ inl e ↦ omega arith | inr j ↦ let m = from_range (a + 1) n q j in omega arith ]
-
-range_rising : (a n : ℕ) → is_increasing nat_cmp (range_with_len a n) ≡ true
-range_rising a zero = refl
-range_rising a (suc n) = front_increasing a (range_with_len (a + 1) n) (λ c i. let m = from_range (a + 1) n c i in omega arith) (range_rising (a + 1) n)
 
 no_one : (n place : ℕ) → n ≡ 0 → (bit_at n place == 1) ≡ false
 no_one n place e = ap (λ m. bit_at m place == 1) e ∙ ap (λ b. b == 1) (bit_at-zero place)
@@ -135,7 +121,7 @@ module _ (ws : List ℕ) (row w : ℕ) (inside : row / 64 < length ws) (read : w
   is_one-set : (q : ℕ) → is_one (set ws (row / 64) word) q ≡ (eq_by_cmp nat_cmp q row || is_one ws q)
   is_one-set q =
       elim (eq_by_cmp nat_cmp q row) as (λ v. eq_by_cmp nat_cmp q row ≡ v → is_one (set ws (row / 64) word) q ≡ (v || is_one ws q)) [
-        | true ↦ λ e. ap (is_one (set ws (row / 64) word)) (nat_cmp-IsAntisymmetric q row (tie (nat_cmp q row) e)) ∙ set_here
+        | true ↦ λ e. ap (is_one (set ws (row / 64) word)) (nat_cmp-IsAntisymmetric q row (equal_is (nat_cmp q row) e)) ∙ set_here
         | false ↦ λ e. set_elsewhere q (λ same. absurd (cc (e, ap (λ z. eq_by_cmp nat_cmp z row) same, itself nat_cmp_total row)))
       ] refl
 

@@ -1,5 +1,5 @@
 -- The rank does not depend on the order of the sets.
-use Rattle.std.proofs.Common.{◌≡◌, ℕ, zero, suc, ◌+◌, ◌<◌, ◌≤◌, Bool, true, false, ◌||◌, cond, List, [], ◌∷◌, length, get_or, set, refl, sym, ap, ◌∙◌, arith, ◌⊎◌, inl, inr}
+use Rattle.std.proofs.Common.{◌≡◌, ℕ, zero, suc, ◌+◌, ◌<◌, ◌≤◌, Bool, true, false, ◌||◌, cond, List, [], ◌∷◌, length, get_or, set, refl, sym, ap, ◌∙◌, arith, inl, inr}
 use Rattle.std.specs.Ordering.{nat_cmp}
 use Rattle.std.specs.declared.cmp.Ordering.{Ordering}
 use Rattle.std.specs.Cmp.{IsTotalOrder}
@@ -10,8 +10,9 @@ use Rattle.std.proofs.lemmas.List.Edits.{swap_is}
 use Rattle.std.proofs.lemmas.List.Sorted.{IsPermutation-keeps}
 use Rattle.simplex.specs.InOrder.{is_member}
 use Rattle.simplex.proofs.InOrderLaws.{itself}
+use Rattle.simplex.proofs.Decided.{or_left, or_right, or_cases}
 use Rattle.gf2_rank.specs.Span.{is_empty, difference, is_in_span, rank}
-use Rattle.gf2_rank.proofs.SpanLaws.{odd, is_member-difference, same_differences, difference_turn, difference_assoc, difference_both}
+use Rattle.gf2_rank.proofs.SpanLaws.{odd, is_member-difference, same_differences, difference_turn, difference_assoc, difference_both, odd_comm}
 
 middle_or : (a b c d : Bool) → ((a || b) || (c || d)) ≡ ((a || c) || (b || d))
 middle_or true b c d = or_true c (b || d)
@@ -24,23 +25,6 @@ middle_or false false c d = sym (or_again c d)
   where
     or_again : (v w : Bool) → (v || (false || w)) ≡ (v || w)
     or_again v w = refl
-
-or_cases : (a b : Bool) → (a || b) ≡ true → (a ≡ true) ⊎ (b ≡ true)
-or_cases true b h = inl refl
-or_cases false b h = inr h
-
-or_left : (a b : Bool) → a ≡ true → (a || b) ≡ true
-or_left a b h = ap (λ v. v || b) h
-
-or_right : (a b : Bool) → b ≡ true → (a || b) ≡ true
-or_right true b h = refl
-or_right false b h = h
-
-odd_comm : (a b : Bool) → odd a b ≡ odd b a
-odd_comm true true = refl
-odd_comm true false = refl
-odd_comm false true = refl
-odd_comm false false = refl
 
 odd_back : (a b : Bool) → odd a (odd a b) ≡ b
 odd_back true true = refl

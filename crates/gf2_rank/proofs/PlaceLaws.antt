@@ -1,5 +1,5 @@
 -- Sets of things, and the sets of their places in a list of names, have one rank.
-use Rattle.std.proofs.Common.{◌≡◌, ℕ, ◌+◌, ◌<◌, Bool, true, false, ◌||◌, cond, List, [], ◌∷◌, length, get_or, refl, sym, ap, ◌∙◌, ◌⊎◌, inl, inr}
+use Rattle.std.proofs.Common.{◌≡◌, ℕ, ◌+◌, ◌<◌, true, false, ◌||◌, cond, List, [], ◌∷◌, length, get_or, refl, sym, ap, ◌∙◌, inl, inr}
 use Rattle.std.specs.Ordering.{nat_cmp}
 use Rattle.std.specs.FinMap.{nat_cmp-IsAntisymmetric, slice_cmp-IsAntisymmetric}
 use Rattle.std.specs.List.{AllZip, Contains}
@@ -9,20 +9,16 @@ use Rattle.simplex.specs.InOrder.{is_member}
 use Rattle.simplex.specs.Simplex.{simplex_cmp}
 use Rattle.simplex.proofs.InOrderLaws.{itself}
 use Rattle.simplex.proofs.Members.{contains_in, in_contains, is_member_from, is_member_at}
+use Rattle.simplex.proofs.Decided.{agree}
 use Rattle.gf2_rank.specs.Laws.{IsNamed}
 use Rattle.gf2_rank.specs.Span.{is_empty, difference, is_in_span, rank}
-use Rattle.gf2_rank.proofs.SpanLaws.{odd, is_member-difference}
+use Rattle.gf2_rank.proofs.SpanLaws.{odd, is_member-difference, odd_some, number_difference}
 
 -- the same by tests
 record IsPlaced (names : List (List ℕ)) (s : List ℕ) (x : List (List ℕ)) : Type 0 where
   places : (k : ℕ) → is_member nat_cmp k s ≡ true → k < length names
   values : (y : List ℕ) → is_member simplex_cmp y x ≡ true → Contains names y
   same : (k : ℕ) (d : List ℕ) → k < length names → is_member nat_cmp k s ≡ is_member simplex_cmp (get_or names k d) x
-
-agree : (v w : Bool) → (v ≡ true → w ≡ true) → (w ≡ true → v ≡ true) → v ≡ w
-agree true w f g = sym (f refl)
-agree false true f g = g refl
-agree false false f g = refl
 
 number_at : (k : ℕ) (s : List ℕ) → is_member nat_cmp k s ≡ true → Contains s k
 number_at k s h = in_contains s k (is_member_at nat_cmp_total nat_cmp-IsAntisymmetric k s h)
@@ -44,13 +40,6 @@ placed_from names s x h =
       same = λ k d l. agree (is_member nat_cmp k s) (is_member simplex_cmp (get_or names k d) x)
           (λ e. name_from (get_or names k d) x ((h.same k d l).0 (number_at k s e))) (λ e. number_from k s ((h.same k d l).1 (name_at (get_or names k d) x e)));
     }
-
-odd_some : (a b : Bool) → odd a b ≡ true → (a ≡ true) ⊎ (b ≡ true)
-odd_some true b h = inl refl
-odd_some false b h = inr h
-
-number_difference : (q : ℕ) (s t : List ℕ) → is_member nat_cmp q (difference nat_cmp s t) ≡ odd (is_member nat_cmp q s) (is_member nat_cmp q t)
-number_difference q s t = is_member-difference nat_cmp_total nat_cmp-IsAntisymmetric q s t
 
 name_difference : (q : List ℕ) (s t : List (List ℕ)) → is_member simplex_cmp q (difference simplex_cmp s t) ≡ odd (is_member simplex_cmp q s) (is_member simplex_cmp q t)
 name_difference q s t = is_member-difference nat_list_cmp_total (slice_cmp-IsAntisymmetric nat_cmp-IsAntisymmetric) q s t

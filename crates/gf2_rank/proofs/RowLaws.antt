@@ -1,5 +1,5 @@
 -- A rank is at most the number of the rows.
-use Rattle.std.proofs.Common.{◌≡◌, ℕ, zero, suc, ◌+◌, ◌≤◌, Bool, true, false, ◌||◌, cond, List, [], ◌∷◌, ◌++◌, length, map, refl, sym, ap, ◌∙◌, subst, arith, ◌⊎◌, inl, inr}
+use Rattle.std.proofs.Common.{◌≡◌, ℕ, zero, suc, ◌+◌, ◌≤◌, Bool, true, false, ◌||◌, cond, List, [], ◌∷◌, ◌++◌, length, map, refl, sym, ap, ◌∙◌, subst, arith, inl, inr}
 use Rattle.std.specs.Prelude.{not}
 use Rattle.std.specs.Ordering.{nat_cmp, eq_by_cmp}
 use Rattle.std.specs.declared.cmp.Ordering.{Ordering}
@@ -10,11 +10,11 @@ use Rattle.std.proofs.lemmas.Cmp.{nat_cmp_total}
 use Rattle.std.proofs.lemmas.List.{length-map, length-append}
 use Rattle.std.proofs.lemmas.List.Elements.{All-contains}
 use Rattle.simplex.specs.InOrder.{is_member}
-use Rattle.simplex.proofs.InOrderLaws.{itself}
+use Rattle.simplex.proofs.InOrderLaws.{itself, equal_is}
 use Rattle.simplex.proofs.Members.{In, first, cases, in_left, in_right, in_filter, from_map, none, is_member_at, contains_in, in_contains}
 use Rattle.gf2_rank.specs.Elimination.{cleared}
 use Rattle.gf2_rank.specs.Span.{difference, rank}
-use Rattle.gf2_rank.proofs.SpanLaws.{odd, tie, is_member-difference, rank-pivot, rank-empty}
+use Rattle.gf2_rank.proofs.SpanLaws.{odd, is_member-difference, rank-pivot, rank-empty, odd_some}
 
 module _ {X : Type 0} where
   ends : (x : X) (xs : List X) → (front : List X) × (last : X) × (x ∷ xs ≡ front ++ last ∷ [])
@@ -35,10 +35,6 @@ module _ {X : Type 0} where
         | true ↦ λ e. elim (cases i) [ inl f ↦ absurd (cc (e, ap p f, h)) | inr j ↦ let less = one_gone p x ys j h in omega arith ]
         | false ↦ λ e. omega arith
       ] refl
-
-odd_some : (a b : Bool) → odd a b ≡ true → (a ≡ true) ⊎ (b ≡ true)
-odd_some true b h = inl refl
-odd_some false b h = inr h
 
 module _ {X : Type 0} {cmp : X → X → Ordering} (o : IsTotalOrder cmp) (exact : IsAntisymmetric cmp) where
   -- the members of the sets are among the rows
@@ -73,7 +69,7 @@ module _ {X : Type 0} {cmp : X → X → Ordering} (o : IsTotalOrder cmp) (exact
   in_other p q rows s h k i =
       in_filter (λ r. not (eq_by_cmp cmp p r)) q rows i
       (elim (eq_by_cmp cmp p q) as (λ v. eq_by_cmp cmp p q ≡ v → not v ≡ true) [
-        | true ↦ λ e. absurd (cc (h, k, ap (λ r. is_member cmp r s) (exact p q (tie (cmp p q) e))))
+        | true ↦ λ e. absurd (cc (h, k, ap (λ r. is_member cmp r s) (exact p q (equal_is (cmp p q) e))))
         | false ↦ λ e. refl
       ] refl)
 

@@ -1,14 +1,14 @@
 -- Laws of symmetric differences, spans and ranks.
 use Rattle.std.specs.Prelude.{not}
-use Rattle.std.proofs.Common.{◌≡◌, ℕ, ◌+◌, Bool, true, false, ◌&&◌, ◌||◌, cond, List, [], ◌∷◌, ◌++◌, map, refl, sym, ap, ◌∙◌}
-use Rattle.std.specs.Ordering.{is_eq, eq_by_cmp}
+use Rattle.std.proofs.Common.{◌≡◌, ℕ, ◌+◌, Bool, true, false, ◌&&◌, ◌||◌, cond, List, [], ◌∷◌, ◌++◌, map, refl, sym, ap, ◌∙◌, ◌⊎◌, inl, inr}
+use Rattle.std.specs.Ordering.{nat_cmp, eq_by_cmp}
 use Rattle.std.specs.declared.cmp.Ordering.{Ordering}
-use Rattle.std.specs.declared.cmp.Ordering.TheVariants.{Less, Equal, Greater}
 use Rattle.std.specs.Cmp.{IsTotalOrder}
-use Rattle.std.specs.FinMap.{IsAntisymmetric}
+use Rattle.std.specs.FinMap.{IsAntisymmetric, nat_cmp-IsAntisymmetric}
+use Rattle.std.proofs.lemmas.Cmp.{nat_cmp_total}
 use Rattle.std.specs.List.{filter}
 use Rattle.simplex.specs.InOrder.{is_member}
-use Rattle.simplex.proofs.InOrderLaws.{is_increasing-in_order, is_member-in_order, itself, same_members}
+use Rattle.simplex.proofs.InOrderLaws.{is_increasing-in_order, is_member-in_order, itself, same_members, equal_is}
 use Rattle.gf2_rank.specs.Span.{is_empty, difference, is_in_span, rank}
 use Rattle.gf2_rank.specs.Elimination.{cleared}
 
@@ -74,11 +74,6 @@ one_more : (v : Bool) (n : ℕ) → cond v (n + 1) (n + 1 + 1) ≡ cond v n (n +
 one_more true n = refl
 one_more false n = refl
 
-pub tie : (r : Ordering) → is_eq r ≡ true → r ≡ Equal
-tie Less h = cc
-tie Equal h = refl
-tie Greater h = cc
-
 module _ {X : Type 0} {cmp : X → X → Ordering} (o : IsTotalOrder cmp) (exact : IsAntisymmetric cmp) where
   pub is_member-append : (q : X) (xs ys : List X) → is_member cmp q (xs ++ ys) ≡ (is_member cmp q xs || is_member cmp q ys)
   is_member-append q [] ys = refl
@@ -88,8 +83,8 @@ module _ {X : Type 0} {cmp : X → X → Ordering} (o : IsTotalOrder cmp) (exact
   is_member-filter p q [] = sym (and_false (p q))
   is_member-filter p q (x ∷ xs) =
       elim (p x) as (λ v. p x ≡ v → is_member cmp q (cond v (x ∷ filter p xs) (filter p xs)) ≡ (p q && (eq_by_cmp cmp q x || is_member cmp q xs))) [
-        | true ↦ λ e. kept (p q) (eq_by_cmp cmp q x) (is_member cmp q xs) (is_member cmp q (filter p xs)) (is_member-filter p q xs) (λ t. ap p (exact q x (tie (cmp q x) t)) ∙ e)
-        | false ↦ λ e. gone (p q) (eq_by_cmp cmp q x) (is_member cmp q xs) (is_member cmp q (filter p xs)) (is_member-filter p q xs) (λ t. ap p (exact q x (tie (cmp q x) t)) ∙ e)
+        | true ↦ λ e. kept (p q) (eq_by_cmp cmp q x) (is_member cmp q xs) (is_member cmp q (filter p xs)) (is_member-filter p q xs) (λ t. ap p (exact q x (equal_is (cmp q x) t)) ∙ e)
+        | false ↦ λ e. gone (p q) (eq_by_cmp cmp q x) (is_member cmp q xs) (is_member cmp q (filter p xs)) (is_member-filter p q xs) (λ t. ap p (exact q x (equal_is (cmp q x) t)) ∙ e)
       ] refl
 
   pub is_member-difference : (q : X) (s t : List X) → is_member cmp q (difference cmp s t) ≡ odd (is_member cmp q s) (is_member cmp q t)
@@ -178,3 +173,16 @@ module _ {X : Type 0} {cmp : X → X → Ordering} (o : IsTotalOrder cmp) (exact
   rank-empty [] = refl
   rank-empty (f ∷ front) =
       ap (λ v. cond v (rank cmp (front ++ [] ∷ [])) (rank cmp (front ++ [] ∷ []) + 1)) (span-empty front f) ∙ ap (λ m. cond (is_in_span cmp front f) m (m + 1)) (rank-empty front)
+
+pub odd_comm : (a b : Bool) → odd a b ≡ odd b a
+odd_comm true true = refl
+odd_comm true false = refl
+odd_comm false true = refl
+odd_comm false false = refl
+
+pub odd_some : (a b : Bool) → odd a b ≡ true → (a ≡ true) ⊎ (b ≡ true)
+odd_some true b h = inl refl
+odd_some false b h = inr h
+
+pub number_difference : (q : ℕ) (s t : List ℕ) → is_member nat_cmp q (difference nat_cmp s t) ≡ odd (is_member nat_cmp q s) (is_member nat_cmp q t)
+number_difference q s t = is_member-difference nat_cmp_total nat_cmp-IsAntisymmetric q s t

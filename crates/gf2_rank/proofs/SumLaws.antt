@@ -1,5 +1,5 @@
 -- The span of sets is the list of the symmetric differences of their sublists.
-use Rattle.std.proofs.Common.{◌≡◌, Bool, true, false, ◌||◌, ℕ, List, [], ◌∷◌, ◌++◌, map, refl, ap, ◌∙◌, subst, ◌⊎◌, inl, inr}
+use Rattle.std.proofs.Common.{◌≡◌, Bool, true, false, ◌||◌, ℕ, List, [], ◌∷◌, ◌++◌, map, refl, ap, ◌∙◌, subst, inl, inr}
 use Rattle.std.specs.Prelude.{not, ◌↔◌}
 use Rattle.std.specs.Ordering.{nat_cmp}
 use Rattle.std.specs.FinMap.{nat_cmp-IsAntisymmetric}
@@ -8,9 +8,10 @@ use Rattle.std.proofs.lemmas.Cmp.{nat_cmp_total}
 use Rattle.simplex.specs.InOrder.{is_member, is_increasing}
 use Rattle.simplex.proofs.InOrderLaws.{is_increasing-in_order, same_members}
 use Rattle.simplex.proofs.Members.{In, first, cases, none, in_left, in_right, in_either, in_map, from_map, contains_in, in_contains}
+use Rattle.simplex.proofs.Decided.{or_cases, or_right}
 use Rattle.gf2_rank.specs.Laws.{sums}
 use Rattle.gf2_rank.specs.Span.{is_empty, difference, is_in_span}
-use Rattle.gf2_rank.proofs.SpanLaws.{odd, is_member-difference}
+use Rattle.gf2_rank.proofs.SpanLaws.{odd, number_difference}
 
 odd_around : (a b : Bool) → odd b (odd a b) ≡ a
 odd_around true true = refl
@@ -24,29 +25,18 @@ odd_before true false = refl
 odd_before false true = refl
 odd_before false false = refl
 
-or_cases : (a b : Bool) → (a || b) ≡ true → (a ≡ true) ⊎ (b ≡ true)
-or_cases true b h = inl refl
-or_cases false b h = inr h
-
-or_right : (a b : Bool) → b ≡ true → (a || b) ≡ true
-or_right true b h = refl
-or_right false b h = h
-
-member_d : (q : ℕ) (s t : List ℕ) → is_member nat_cmp q (difference nat_cmp s t) ≡ odd (is_member nat_cmp q s) (is_member nat_cmp q t)
-member_d q s t = is_member-difference nat_cmp_total nat_cmp-IsAntisymmetric q s t
-
 rising_d : (s t : List ℕ) → is_increasing nat_cmp (difference nat_cmp s t) ≡ true
 rising_d s t = is_increasing-in_order nat_cmp_total (filter (λ x. not (is_member nat_cmp x t)) s ++ filter (λ x. not (is_member nat_cmp x s)) t)
 
 around : (s t : List ℕ) → is_increasing nat_cmp s ≡ true → difference nat_cmp t (difference nat_cmp s t) ≡ s
 around s t h =
     same_members nat_cmp_total nat_cmp-IsAntisymmetric (difference nat_cmp t (difference nat_cmp s t)) s (rising_d t (difference nat_cmp s t)) h
-    (λ q. member_d q t (difference nat_cmp s t) ∙ ap (odd (is_member nat_cmp q t)) (member_d q s t) ∙ odd_around (is_member nat_cmp q s) (is_member nat_cmp q t))
+    (λ q. number_difference q t (difference nat_cmp s t) ∙ ap (odd (is_member nat_cmp q t)) (number_difference q s t) ∙ odd_around (is_member nat_cmp q s) (is_member nat_cmp q t))
 
 before : (s t : List ℕ) → is_increasing nat_cmp s ≡ true → difference nat_cmp (difference nat_cmp t s) t ≡ s
 before s t h =
     same_members nat_cmp_total nat_cmp-IsAntisymmetric (difference nat_cmp (difference nat_cmp t s) t) s (rising_d (difference nat_cmp t s) t) h
-    (λ q. member_d q (difference nat_cmp t s) t ∙ ap (λ v. odd v (is_member nat_cmp q t)) (member_d q t s) ∙ odd_before (is_member nat_cmp q s) (is_member nat_cmp q t))
+    (λ q. number_difference q (difference nat_cmp t s) t ∙ ap (λ v. odd v (is_member nat_cmp q t)) (number_difference q t s) ∙ odd_before (is_member nat_cmp q s) (is_member nat_cmp q t))
 
 in_sums : (ts : List (List ℕ)) (s : List ℕ) → is_increasing nat_cmp s ≡ true → is_in_span nat_cmp ts s ≡ true → In s (sums ts)
 in_sums [] [] h k = first

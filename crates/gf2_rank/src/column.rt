@@ -54,8 +54,8 @@ impl Column {
         add_words(&mut self.words, &other.words);
     }
 
-    /// The least row that is 1.
-    pub(crate) fn lowest(&self) -> Option<usize>
+    /// A row that is 1, if there is one.
+    pub(crate) fn pivot_row(&self) -> Option<usize>
         requires { length self.now.words.items ≤ 256 }
         ensures member { IfSome result (λ row. IsTrue (is_member nat_cmp row (ones self.now.words.items))) }
         ensures inside { IfSome result (λ row. row / 64 < length self.now.words.items) }

@@ -4,8 +4,6 @@
 mod column;
 mod laws;
 mod matrix;
-#[cfg(test)]
-mod tests;
 
 pub use laws::{
     rank_is_of_any_order, rank_is_that_of_the_places, rank_is_within_the_columns,

@@ -93,7 +93,7 @@ fn rank_of(columns: Vec<Column>, len: usize) -> usize
     let mut columns = columns;
     let mut rank = 0;
     while let Some(last) = columns.pop() {
-        if let Some(row) = last.lowest() {
+        if let Some(row) = last.pivot_row() {
             clear_all(&mut columns, row, &last);
             rank += 1;
         }

@@ -1,80 +1,19 @@
--- The faces of the lists of pieces: links and deletions.
-use Rattle.std.proofs.Common.{◌≡◌, ℕ, Bool, true, false, not, cond, ◌&&◌, List, [], ◌∷◌, map, refl, sym, ap, ◌∙◌, ◌⊎◌, inl, inr}
+-- The faces of the list of pieces of a deletion.
+use Rattle.std.proofs.Common.{◌≡◌, ℕ, true, false, not, cond, ◌&&◌, List, [], ◌∷◌, map, refl, sym, ap, ◌∙◌, ◌⊎◌, inl, inr}
 use mathlib.Core.Bool.{true≢false}
 use Rattle.std.specs.Prelude.{◌==◌}
 use Rattle.std.specs.Ordering.{nat_cmp}
-use Rattle.std.specs.List.{list_all, filter, flat_map}
-use Rattle.simplex.specs.Simplex.{has, is_simplex, is_within, is_disjoint, union, minus, without}
-use Rattle.simplex.proofs.Filled.{rising_of}
+use Rattle.std.specs.List.{list_all, flat_map}
+use Rattle.simplex.specs.Simplex.{has, is_within, without}
 use Rattle.simplex.proofs.InOrderLaws.{and_left, and_right, and_both}
-use Rattle.simplex.proofs.Members.{In, first, later, cases, none, all_at, all_from, in_filter, from_filter, in_map, from_map, in_flat_map, from_flat_map}
-use Rattle.simplex.proofs.SimplexLaws.{has_at, has_from, within_in, in_within, within_trans, in_union, from_union, in_without, from_without, disjoint_at, disjoint_from, is_increasing-filter}
-use Rattle.facet_set.specs.Complex.{generated, is_face, faces, facets_with}
-use Rattle.facet_set.specs.Parts.{faces_where, link, deletion}
-use Rattle.facet_set.proofs.ComplexLaws.{is_set, from_generated, is_complex-generated, is_face-generated, is_face-faces_where, same_complex, face_at, face_from, from_faces}
-use Rattle.facet_set.proofs.LinkLaws.{is_face-link}
-use Rattle.local_parts.specs.Pieces.{link_pieces, pieces}
-
-pub agree : (v w : Bool) → (v ≡ true → w ≡ true) → (w ≡ true → v ≡ true) → v ≡ w
-agree true w f g = sym (f refl)
-agree false true f g = g refl
-agree false false f g = refl
-
-pub off : (v : Bool) → not v ≡ true → v ≡ false
-off true h = sym h
-off false h = refl
-
-pub lacks : (v : Bool) → (v ≡ true → ⊥) → not v ≡ true
-lacks true g = absurd (g refl)
-lacks false g = refl
-
--- simplices are sets
-pub sets : (c : List (List ℕ)) → list_all is_simplex c ≡ true → list_all is_set c ≡ true
-sets c h = all_from is_set c (λ s i. rising_of s (all_at is_simplex s c h i))
-
-generated_sets : (l : List (List ℕ)) → list_all is_set l ≡ true → list_all is_set (generated l) ≡ true
-generated_sets l h = all_from is_set (generated l) (λ s i. all_at is_set s l h (from_generated s l i).0)
-
-family_sets : (test : List ℕ → Bool) (c : List (List ℕ)) → list_all is_set c ≡ true → list_all is_set (filter test (faces c)) ≡ true
-family_sets test c h = all_from is_set (filter test (faces c)) (λ s i. (from_faces c s h (from_filter test s (faces c) i).0).0)
-
--- a list with the faces of the family generates its complex
-pub parts_are : (test : List ℕ → Bool) (c l : List (List ℕ)) → list_all is_set c ≡ true → list_all is_set l ≡ true → ((b : List ℕ) → is_set b ≡ true → is_face l b ≡ is_face (faces_where test c) b) → generated l ≡ faces_where test c
-parts_are test c l h k f =
-    same_complex (generated l) (faces_where test c) (generated_sets l k) (generated_sets (filter test (faces c)) (family_sets test c h)) (is_complex-generated l) (is_complex-generated (filter test (faces c)))
-    (λ b s. is_face-generated l b k ∙ f b s)
-
--- ---- the link
-
-link_sets : (c : List (List ℕ)) (a : List ℕ) → list_all is_set c ≡ true → list_all is_set (link_pieces c a) ≡ true
-link_sets c a h = all_from is_set (link_pieces c a) (λ t i.
-    let r = from_map (λ s. minus s a) t (facets_with c a) i in
-    ap is_set r.2 ∙ is_increasing-filter nat_cmp (λ x. not (has a x)) r.0 (all_at is_set r.0 c h (from_filter (is_within a) r.0 c r.1).0))
-
-from_link : (c : List (List ℕ)) (a b : List ℕ) → is_face (link_pieces c a) b ≡ true → (is_disjoint b a && is_face c (union a b)) ≡ true
-from_link c a b f =
-    let r = face_at (link_pieces c a) b f in
-    let m = from_map (λ s. minus s a) r.0 (facets_with c a) r.1 in
-    let q = from_filter (is_within a) m.0 c m.1 in
-    let w : is_within b (minus m.0 a) ≡ true = ap (is_within b) (sym m.2) ∙ r.2 in
-    let at : (x : ℕ) → In x b → In x m.0 × (not (has a x) ≡ true) = λ x i. from_filter (λ y. not (has a y)) x m.0 (within_in b (minus m.0 a) x w i) in
-    and_both _ _ (disjoint_from b a (λ x i j. true≢false (sym (has_from a x j) ∙ off (has a x) (at x i).1)))
-    (face_from c (union a b) m.0 q.0 (in_within (union a b) m.0 (λ x i. elim (from_union a b x i) [ inl j ↦ within_in a m.0 x q.1 j | inr j ↦ (at x j).0 ])))
-
-in_link : (c : List (List ℕ)) (a b : List ℕ) → (is_disjoint b a && is_face c (union a b)) ≡ true → is_face (link_pieces c a) b ≡ true
-in_link c a b f =
-    let d : is_disjoint b a ≡ true = and_left _ _ f in
-    let r = face_at c (union a b) (and_right (is_disjoint b a) _ f) in
-    let w : is_within a r.0 ≡ true = in_within a r.0 (λ x i. within_in (union a b) r.0 x r.2 (in_union a b x (inl i))) in
-    face_from (link_pieces c a) b (minus r.0 a) (in_map (λ s. minus s a) r.0 (facets_with c a) (in_filter (is_within a) r.0 c r.1 w))
-    (in_within b (minus r.0 a) (λ x i. in_filter (λ y. not (has a y)) x r.0 (within_in (union a b) r.0 x r.2 (in_union a b x (inr i))) (lacks (has a x) (λ t. disjoint_at b a x d i (has_at a x t)))))
-
-pub link_is : (c : List (List ℕ)) (a : List ℕ) → list_all is_set c ≡ true → generated (link_pieces c a) ≡ link c a
-link_is c a h =
-    parts_are (λ b. is_disjoint b a && is_face c (union a b)) c (link_pieces c a) h (link_sets c a h) (λ b k.
-    agree (is_face (link_pieces c a) b) (is_disjoint b a && is_face c (union a b)) (from_link c a b) (in_link c a b) ∙ sym (is_face-link c a b h k))
-
--- ---- the deletion
+use Rattle.simplex.proofs.Members.{In, first, later, cases, none, all_at, all_from, in_map, from_map, in_flat_map, from_flat_map}
+use Rattle.simplex.proofs.SimplexLaws.{has_from, within_in, in_within, within_trans, in_without, from_without, is_increasing-filter}
+use Rattle.simplex.proofs.Decided.{agree, not_true, not_from}
+use Rattle.facet_set.specs.Complex.{generated, is_face}
+use Rattle.facet_set.specs.Parts.{deletion}
+use Rattle.facet_set.proofs.ComplexLaws.{is_set, is_face-faces_where, face_at, face_from}
+use Rattle.facet_set.proofs.LinkLaws.{parts_are}
+use Rattle.local_parts.specs.Pieces.{pieces}
 
 from_pieces : (a s t : List ℕ) → In t (pieces a s) → ((is_within a s ≡ false) × (t ≡ s)) ⊎ ((x : ℕ) × In x a × (t ≡ without s x))
 from_pieces a s t i =
@@ -116,7 +55,7 @@ missing (x ∷ a) b h =
     ] refl h
 
 not_within : (a b : List ℕ) → (is_within a b ≡ true → ⊥) → not (is_within a b) ≡ true
-not_within a b f = lacks (is_within a b) f
+not_within a b f = not_from (is_within a b) f
 
 from_deletion : (c : List (List ℕ)) (a b : List ℕ) → is_face (flat_map (pieces a) c) b ≡ true → (is_face c b && not (is_within a b)) ≡ true
 from_deletion c a b f =
@@ -135,7 +74,7 @@ from_deletion c a b f =
 in_deletion : (c : List (List ℕ)) (a b : List ℕ) → (is_face c b && not (is_within a b)) ≡ true → is_face (flat_map (pieces a) c) b ≡ true
 in_deletion c a b f =
     let r = face_at c b (and_left _ _ f) in
-    let n : is_within a b ≡ false = off (is_within a b) (and_right (is_face c b) _ f) in
+    let n : is_within a b ≡ false = not_true (is_within a b) (and_right (is_face c b) _ f) in
     elim (is_within a r.0) as (λ v. is_within a r.0 ≡ v → is_face (flat_map (pieces a) c) b ≡ true) [
       | true ↦ λ e.
           let m = missing a b n in
@@ -148,4 +87,4 @@ pub deletion_is : (c : List (List ℕ)) (a : List ℕ) → list_all is_set c ≡
 deletion_is c a h =
     parts_are (λ b. not (is_within a b)) c (flat_map (pieces a) c) h (deletion_sets c a h) (λ b k.
     agree (is_face (flat_map (pieces a) c) b) (is_face c b && not (is_within a b)) (from_deletion c a b) (in_deletion c a b)
-    ∙ sym (is_face-faces_where (λ s. not (is_within a s)) c h (λ s t p q w e. not_within a s (λ u. true≢false (sym (within_trans a s t u w) ∙ off (is_within a t) e))) b k))
+    ∙ sym (is_face-faces_where (λ s. not (is_within a s)) c h (λ s t p q w e. not_within a s (λ u. true≢false (sym (within_trans a s t u w) ∙ not_true (is_within a t) e))) b k))

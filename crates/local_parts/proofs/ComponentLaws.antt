@@ -1,21 +1,20 @@
 -- Components by the pairs of places.
 use Rattle.std.proofs.Common.{◌≡◌, ℕ, ◌+◌, ◌<◌, Bool, true, false, ◌&&◌, ◌||◌, List, [], ◌∷◌, length, get_or, refl, sym, ap, ◌∙◌, subst, arith}
-use Rattle.std.specs.Ordering.{nat_cmp}
-use Rattle.std.specs.List.{range_with_len, flat_map}
-use Rattle.std.proofs.lemmas.Cmp.{nat_cmp_total}
-use Rattle.simplex.specs.InOrder.{is_increasing}
+use Rattle.std.specs.List.{range_with_len}
 use Rattle.simplex.specs.Members.{In}
 use Rattle.simplex.specs.Simplex.{has}
-use Rattle.simplex.proofs.InOrderLaws.{and_left, and_right, and_both, is_increasing-in_order}
+use Rattle.simplex.proofs.InOrderLaws.{and_left, and_right, and_both}
 use Rattle.simplex.proofs.Members.{none, any_from, any_at, in_map, from_map, in_flat_map, from_flat_map}
 use Rattle.simplex.proofs.SimplexLaws.{has_at, has_from}
+use Rattle.simplex.proofs.Ranges.{in_range}
 use Rattle.facet_set.specs.Complex.{verts}
 use Rattle.facet_set.specs.Connection.{Chain, here, step, classes, is_edge, components}
 use Rattle.facet_set.proofs.OptionLaws.{in_verts}
+use Rattle.facet_set.proofs.SetLaws.{in_place}
+use Rattle.facet_set.proofs.ComplexLaws.{verts_increase}
 use Rattle.local_parts.specs.Forest.{HasChains}
 use Rattle.local_parts.specs.Pairs.{place, pairs_of, vertex_pairs}
 use Rattle.local_parts.proofs.CountLaws.{classes_at}
-use Rattle.local_parts.proofs.ForestLaws.{in_range, in_place}
 use Rattle.local_parts.proofs.PlaceLaws.{place_in, place_at, listed}
 
 edge_even : (c : List (List ℕ)) (a b : ℕ) → is_edge c a b ≡ is_edge c b a
@@ -30,9 +29,6 @@ edge_even (s ∷ c) a b = λ i. swap (has s a) (has s b) i || edge_even c a b i
 
 abbrev pub label_at : List (List ℕ) → ℕ → ℕ
 label_at c i = get_or (verts c) i 0
-
-pub verts_increase : (c : List (List ℕ)) → is_increasing nat_cmp (verts c) ≡ true
-verts_increase c = is_increasing-in_order nat_cmp_total (flat_map (λ s. s) c)
 
 some_label : (s : List ℕ) (a : ℕ) → In a s → In (get_or s 0 0) s
 some_label s a i = in_place s 0 0 (filled s a i)
@@ -75,7 +71,7 @@ chained c q i =
     let edge : is_edge c head p.label ≡ true = any_from (λ s. has s head && has s p.label) p.facet c p.stands (and_both _ _ (has_from p.facet head p.first_lies) (has_from p.facet p.label p.lies)) in
     let edge_at : joined_at c (place (verts c) head) (place (verts c) p.label) ≡ true = ap (λ a. is_edge c a (label_at c (place (verts c) p.label))) one.1 ∙ ap (is_edge c head) two.1 ∙ edge in
     subst (λ (w : ℕ × ℕ). Chain (joined_at c) (range_with_len 0 (length (verts c))) w.0 w.1) (sym p.is)
-    (step edge_at (in_range (length (verts c)) 0 (place (verts c) p.label) (omega arith) (omega (arith, two.0))) here)
+    (step edge_at (in_range 0 (length (verts c)) (place (verts c) p.label) (omega arith) (omega (arith, two.0))) here)
 
 spanned : (c : List (List ℕ)) (f : ℕ → ℕ) → ((q : ℕ × ℕ) → In q (vertex_pairs (verts c) c) → f q.0 ≡ f q.1) → (i j : ℕ) → i < length (verts c) → j < length (verts c) → joined_at c i j ≡ true → f i ≡ f j
 spanned c f h i j k l e =

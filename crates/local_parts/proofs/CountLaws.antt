@@ -1,9 +1,9 @@
 -- The number of classes is that of the members that stand for their class.
 use Rattle.std.proofs.Common.{◌≡◌, ℕ, ◌+◌, Bool, true, false, not, cond, ◌||◌, eqb, List, [], ◌∷◌, ◌++◌, map, length, refl, sym, ap, ◌∙◌, subst, inl, inr, arith}
 use Rattle.std.specs.List.{list_any, filter, flat_map}
-use Rattle.std.proofs.lemmas.Bool.Decides.{nat_tests}
 use Rattle.simplex.specs.Members.{In, first, later}
 use Rattle.simplex.proofs.Members.{cases, none, in_left}
+use Rattle.simplex.proofs.Decided.{false_from, equal_at, equal_from}
 use Rattle.facet_set.specs.Connection.{Chain, here, step, classes}
 use Rattle.facet_set.specs.ClassLaws.{IsOnce}
 use Rattle.facet_set.proofs.ClassLaws.{from_class, chain_in, chain_stays}
@@ -14,10 +14,6 @@ one_if b = cond b 1 0
 
 abbrev joint : List (List ℕ) → List ℕ
 joint ks = flat_map (λ k. k) ks
-
-false_from : (v : Bool) → (v ≡ true → ⊥) → v ≡ false
-false_from true f = absurd (f refl)
-false_from false f = refl
 
 -- ---- how many members pass the test p
 module _ (p : ℕ → Bool) where
@@ -81,12 +77,6 @@ once_class (l ∷ ks) k i h = elim (cases i) [
   | inl e ↦ subst (λ m. IsOnce ℕ m) (sym e) (once_left l (joint ks) h)
   | inr j ↦ once_class ks k j (once_right l (joint ks) h)
 ]
-
-equal_from : (a b : ℕ) → a ≡ b → eqb a b ≡ true
-equal_from a b e = grind (arith, nat_tests)
-
-equal_at : (a b : ℕ) → eqb a b ≡ true → a ≡ b
-equal_at a b e = grind (arith, nat_tests)
 
 -- f gives each member one of its class that stands for the class
 pub record StandsFor (joined : ℕ → ℕ → Bool) (xs : List ℕ) (f : ℕ → ℕ) : Type 0 where

@@ -9,8 +9,11 @@ use Rattle.std.proofs.lemmas.List.{get_or-set_other, take_more}
 use Rattle.std.proofs.lemmas.List.FromFn.{length-range_with_len, get_or-range_with_len}
 use Rattle.simplex.specs.Members.{In, first, later}
 use Rattle.simplex.proofs.Members.{cases, none, in_either}
+use Rattle.simplex.proofs.Ranges.{in_range, from_range}
+use Rattle.simplex.proofs.Decided.{agree, equal_at, equal_from}
 use Rattle.facet_set.specs.ClassLaws.{IsOnce}
 use Rattle.facet_set.specs.Connection.{Chain, here, step, classes}
+use Rattle.facet_set.proofs.SetLaws.{in_place}
 use Rattle.local_parts.specs.Forest.{Falls, climb, root, moved, HasChains, IsForest}
 use Rattle.local_parts.proofs.CountLaws.{classes_are}
 
@@ -148,32 +151,12 @@ back : (joined : ℕ → ℕ → Bool) → ((x y : ℕ) → joined x y ≡ joine
 back joined even xs i here = here
 back joined even xs {x = x} i (step {y = y} h j c) = join joined xs (back joined even xs j c) (step (even y x ∙ h) i here)
 
-pub in_range : (n a x : ℕ) → a ≤ x → x < a + n → In x (range_with_len a n)
-in_range zero a x l h = absurd (omega arith)
-in_range (suc n) a x l h = elim (same_or_not x a) [
-  | inl e ↦ subst (λ y. In x (y ∷ range_with_len (a + 1) n)) e first
-  | inr d ↦ later (in_range n (a + 1) x (above a x l d) (omega arith))
-]
-  where
-    above : (a x : ℕ) → a ≤ x → (x ≡ a → ⊥) → a + 1 ≤ x
-    above a x l d = elim (eqb x a) as (λ v. eqb x a ≡ v → a + 1 ≤ x) [
-      | true ↦ λ e. absurd (d (grind (arith, nat_tests)))
-      | false ↦ λ e. grind (arith, nat_tests)
-    ] refl
-
-pub from_range : (n a x : ℕ) → In x (range_with_len a n) → (a ≤ x) × (x < a + n)
-from_range zero a x i = absurd (none x i)
-from_range (suc n) a x i = elim (cases i) [
-  | inl e ↦ (omega arith, omega arith)
-  | inr j ↦ let r = from_range n (a + 1) x j in (omega (arith, r.0), omega (arith, r.1))
-]
-
 pub below_range : (n x : ℕ) → In x (range_with_len 0 n) → x < n
-below_range n x i = let r = from_range n 0 x i in let h : x < 0 + n = r.1 in omega arith
+below_range n x i = let r = from_range 0 n x i in let h : x < 0 + n = r.1 in omega arith
 
 once_range : (n a : ℕ) → IsOnce ℕ (range_with_len a n)
 once_range zero a = tt
-once_range (suc n) a = (λ i. let r = from_range n (a + 1) a i in absurd (let l = r.0 in omega arith), once_range n (a + 1))
+once_range (suc n) a = (λ i. let r = from_range (a + 1) n a i in absurd (let l = r.0 in omega arith), once_range n (a + 1))
 
 -- ---- the forest, pair by pair
 
@@ -238,7 +221,7 @@ forest_more n done all q p u iq h k forest l falls roots below = record {
     at joined hc x hx = forest.chained joined hc x hx
 
     across : (joined : ℕ → ℕ → Bool) → HasChains joined all n → Chain joined range (root p q.0) (root p q.1)
-    across joined hc = join joined range (back joined hc.even range (in_range n 0 q.0 (omega arith) (omega arith)) (at joined hc q.0 h)) (join joined range (hc.chained q iq) (at joined hc q.1 k))
+    across joined hc = join joined range (back joined hc.even range (in_range 0 n q.0 (omega arith) (omega arith)) (at joined hc q.0 h)) (join joined range (hc.chained q iq) (at joined hc q.1 k))
 
     first_within : root p q.0 < n
     first_within = let e = forest.long in let r = root_within p q.0 forest.falls (omega arith) in omega arith
@@ -251,7 +234,7 @@ forest_more n done all q p u iq h k forest l falls roots below = record {
 
     down : (joined : ℕ → ℕ → Bool) → HasChains joined all n → Chain joined range high low
     down joined hc = elim which [
-      | inl w ↦ subst (λ y. Chain joined range y low) (sym w.0) (subst (λ y. Chain joined range (root p q.1) y) (sym w.1) (back joined hc.even range (in_range n 0 (root p q.0) (omega arith) (let f = first_within in omega arith)) (across joined hc)))
+      | inl w ↦ subst (λ y. Chain joined range y low) (sym w.0) (subst (λ y. Chain joined range (root p q.1) y) (sym w.1) (back joined hc.even range (in_range 0 n (root p q.0) (omega arith) (let f = first_within in omega arith)) (across joined hc)))
       | inr w ↦ subst (λ y. Chain joined range y low) (sym w.0) (subst (λ y. Chain joined range (root p q.0) y) (sym w.1) (across joined hc))
     ]
 
@@ -264,17 +247,6 @@ forest_more n done all q p u iq h k forest l falls roots below = record {
 filter_same : (p q : ℕ → Bool) (l : List ℕ) → ((x : ℕ) → In x l → p x ≡ q x) → filter p l ≡ filter q l
 filter_same p q [] f = refl
 filter_same p q (x ∷ l) f = ap (λ b. cond b (x ∷ filter p l) (filter p l)) (f x first) ∙ ap (λ k. cond (q x) (x ∷ k) k) (filter_same p q l (λ y i. f y (later i)))
-
-agree : (v w : Bool) → (v ≡ true → w ≡ true) → (w ≡ true → v ≡ true) → v ≡ w
-agree true w f g = sym (f refl)
-agree false true f g = g refl
-agree false false f g = refl
-
-equal_from : (a b : ℕ) → a ≡ b → eqb a b ≡ true
-equal_from a b e = grind (arith, nat_tests)
-
-equal_at : (a b : ℕ) → eqb a b ≡ true → a ≡ b
-equal_at a b e = grind (arith, nat_tests)
 
 pub forest_count : (n : ℕ) (all : List (ℕ × ℕ)) (p : List ℕ) → IsForest n all all p → (joined : ℕ → ℕ → Bool) → HasChains joined all n → length (filter (λ i. get_or p i 0 == i) (range_with_len 0 n)) ≡ length (classes joined (range_with_len 0 n))
 forest_count n all p forest joined hc =
@@ -295,11 +267,6 @@ in_take : {X : Type 0} (k : ℕ) (xs : List X) (x : X) → In x (take k xs) → 
 in_take zero xs x i = absurd (none x i)
 in_take (suc k) [] x i = i
 in_take (suc k) (y ∷ xs) x i = elim (cases i) [ inl e ↦ subst (λ z. In x (z ∷ xs)) e first | inr j ↦ later (in_take k xs x j) ]
-
-pub in_place : {X : Type 0} (xs : List X) (k : ℕ) (d : X) → k < length xs → In (get_or xs k d) xs
-in_place [] k d h = absurd (omega arith)
-in_place (x ∷ xs) zero d h = first
-in_place (x ∷ xs) (suc k) d h = later (in_place xs k d (omega arith))
 
 pub forest_step : (n : ℕ) (all : List (ℕ × ℕ)) (k : ℕ) (p u : List ℕ) → k < length all → ((q : ℕ × ℕ) → In q all → (q.0 < n) × (q.1 < n)) → IsForest n (take k all) all p → length u ≡ length p → Falls u
     → ((x : ℕ) → x < length p → root u x ≡ moved (min (root p (get_or all k (0, 0)).0) (root p (get_or all k (0, 0)).1)) (max (root p (get_or all k (0, 0)).0) (root p (get_or all k (0, 0)).1)) (root p x))

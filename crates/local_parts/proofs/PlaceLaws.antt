@@ -1,5 +1,5 @@
 -- Places of labels in increasing lists.
-use Rattle.std.proofs.Common.{◌≡◌, ℕ, zero, suc, ◌+◌, ◌<◌, Bool, true, false, cond, eqb, ltb, List, [], ◌∷◌, map, length, get_or, refl, sym, ap, ◌∙◌, subst, inl, inr, arith, add-one}
+use Rattle.std.proofs.Common.{◌≡◌, ℕ, zero, suc, ◌+◌, ◌<◌, true, false, cond, eqb, ltb, List, [], ◌∷◌, map, length, get_or, refl, sym, ap, ◌∙◌, subst, inl, inr, arith, add-one}
 use mathlib.Core.Bool.{true≢false}
 use Rattle.std.specs.Prelude.{Result, Ok, Err}
 use Rattle.std.specs.Result.{result_unwrap_or}
@@ -16,17 +16,8 @@ use Rattle.simplex.specs.Members.{In, first, later}
 use Rattle.simplex.proofs.InOrderLaws.{and_left, and_right}
 use Rattle.simplex.proofs.Members.{cases, none, in_contains}
 use Rattle.simplex.proofs.SimplexLaws.{above_at, rest_increasing}
+use Rattle.simplex.proofs.Decided.{false_from, equal_at, equal_from}
 use Rattle.local_parts.specs.Pairs.{place}
-
-false_from : (v : Bool) → (v ≡ true → ⊥) → v ≡ false
-false_from true f = absurd (f refl)
-false_from false f = refl
-
-equal_at : (a b : ℕ) → eqb a b ≡ true → a ≡ b
-equal_at a b e = grind (arith, nat_tests)
-
-equal_from : (a b : ℕ) → a ≡ b → eqb a b ≡ true
-equal_from a b e = grind (arith, nat_tests)
 
 pub place_in : (vs : List ℕ) (a : ℕ) → In a vs → (place vs a < length vs) × (get_or vs (place vs a) 0 ≡ a)
 place_in [] a i = absurd (none a i)

@@ -8,6 +8,7 @@ use Rattle.simplex.specs.Simplex.{is_within, without}
 use Rattle.simplex.proofs.InOrderLaws.{and_left, and_right}
 use Rattle.simplex.proofs.Members.{In, first, later, cases, at_head, none, all_at, all_from, in_filter, from_filter, from_map, from_flat_map}
 use Rattle.simplex.proofs.SimplexLaws.{within_in, in_within, within_same, above_at, rest_increasing, is_increasing-filter, from_without}
+use Rattle.simplex.proofs.Decided.{eqb_equal, eqb_apart, false_from, agree}
 use Rattle.facet_set.specs.Complex.{generated, is_face, faces, facets_with}
 use Rattle.facet_set.specs.Numbers.{size, is_pure, degree}
 use Rattle.facet_set.specs.Parts.{ridges, boundary}
@@ -16,7 +17,6 @@ use Rattle.facet_set.proofs.ComplexLaws.{is_set, same_itself, generated_same, fa
 use Rattle.facet_set.proofs.FlipLaws.{pure_at, length-without}
 use Rattle.facet_set.proofs.GeneratedLaws.{same, same_at, same_is}
 use Rattle.local_parts.specs.Pieces.{all_ridges, copies}
-use Rattle.local_parts.proofs.AroundLaws.{agree}
 
 -- the set less one label each
 abbrev pub drops : List ℕ → List (List ℕ)
@@ -77,16 +77,6 @@ copies_led b a r (t ∷ l) =
 same_from : (r s : List ℕ) → r ≡ s → same r s ≡ true
 same_from r s e = ap (same r) (sym e) ∙ same_is r r ∙ same_itself r
 
-equal : (a b : ℕ) → eqb a b ≡ true → a ≡ b
-equal a b e = grind (arith, nat_tests)
-
-differ : (a b : ℕ) → eqb a b ≡ false → a ≡ b → ⊥
-differ a b e f = grind (arith, nat_tests)
-
-false_from : (v : Bool) → (v ≡ true → ⊥) → v ≡ false
-false_from true f = absurd (f refl)
-false_from false f = refl
-
 tail_within : (a b : ℕ) (s r : List ℕ) → is_set (a ∷ s) ≡ true → is_set (b ∷ r) ≡ true → (b ≡ a → ⊥) → is_within (b ∷ r) (a ∷ s) ≡ true → is_within (b ∷ r) s ≡ true
 tail_within a b s r h k d w = elim (cases (within_in (b ∷ r) (a ∷ s) b w first)) [
   | inl e ↦ absurd (d e)
@@ -107,7 +97,7 @@ copies_drops (a ∷ s) (b ∷ r) h k l =
     copies_more (b ∷ r) s (map (λ t. a ∷ t) (drops s)) ∙ ap (λ n. one_if (same (b ∷ r) s) + n) (copies_led b a r (drops s))
     ∙ elim (eqb b a) as (λ v. eqb b a ≡ v → one_if (same (b ∷ r) s) + cond v (copies r (drops s)) 0 ≡ one_if (is_within (b ∷ r) (a ∷ s))) [
       | true ↦ λ e.
-          let head : b ≡ a = equal b a e in
+          let head : b ≡ a = eqb_equal b a e in
           let not_tail : same (b ∷ r) s ≡ false = false_from _ (λ t. let l = above_at a s b h (subst (λ x. In b x) (same_at (b ∷ r) s t) first) in omega arith) in
           let reach : is_within r s ≡ is_within (b ∷ r) (a ∷ s) = agree (is_within r s) (is_within (b ∷ r) (a ∷ s))
           (λ w. in_within (b ∷ r) (a ∷ s) (λ c i. elim (cases i) [ inl f ↦ at_head c a s (f ∙ head) | inr j ↦ later (within_in r s c w j) ]))
@@ -116,7 +106,7 @@ copies_drops (a ∷ s) (b ∷ r) h k l =
       | false ↦ λ e.
           let reach : same (b ∷ r) s ≡ is_within (b ∷ r) (a ∷ s) = agree (same (b ∷ r) s) (is_within (b ∷ r) (a ∷ s))
           (λ t. let is = same_at (b ∷ r) s t in in_within (b ∷ r) (a ∷ s) (λ c i. later (subst (λ x. In c x) is i)))
-          (λ w. same_from (b ∷ r) s (within_same (b ∷ r) s k (rest_increasing a s h) (tail_within a b s r h k (differ b a e) w) (omega arith))) in
+          (λ w. same_from (b ∷ r) s (within_same (b ∷ r) s k (rest_increasing a s h) (tail_within a b s r h k (eqb_apart b a e) w) (omega arith))) in
           zero_right (one_if (same (b ∷ r) s)) ∙ ap one_if reach
     ] refl
   where
@@ -180,10 +170,10 @@ in_all c r h p q =
     let some : 0 < degree c r = some_in f.0 (facets_with c r) (in_filter (is_within r) f.0 c f.1 f.2) in
     in_copies r (all_ridges c) (omega (arith, ridge_copies c r h p q))
 
-size_is : (n k : ℕ) → n + 1 ≡ k → (n + 1 == k) ≡ true
+pub size_is : (n k : ℕ) → n + 1 ≡ k → (n + 1 == k) ≡ true
 size_is n k e = grind (arith, nat_tests)
 
-size_at : (n k : ℕ) → (n + 1 == k) ≡ true → n + 1 ≡ k
+pub size_at : (n k : ℕ) → (n + 1 == k) ≡ true → n + 1 ≡ k
 size_at n k e = grind (arith, nat_tests)
 
 in_ridges : (c : List (List ℕ)) (r : List ℕ) → list_all is_set c ≡ true → IsRidge c r → In r (ridges c)

@@ -10,11 +10,12 @@ use Rattle.simplex.proofs.InOrderLaws.{and_left, and_right, and_both}
 use Rattle.simplex.proofs.Members.{In, first, later, cases, at_head, none, all_at, all_from, in_filter, from_filter, in_left, in_right, in_either, in_flat_map, from_flat_map}
 use Rattle.simplex.proofs.SimplexLaws.{within_in, in_within, within_itself, within_trans, within_length, above_at, rest_increasing, front_increasing}
 use Rattle.simplex.proofs.SubsetLaws.{subset_within, number_of}
+use Rattle.simplex.proofs.Decided.{le_at, agree}
 use Rattle.facet_set.specs.Complex.{generated, is_face}
 use Rattle.facet_set.specs.Parts.{skeleton}
-use Rattle.facet_set.proofs.ComplexLaws.{is_set, is_face-faces_where, face_at, face_from}
+use Rattle.facet_set.proofs.ComplexLaws.{is_set, is_face-faces_where, face_at, face_from, sets_of}
+use Rattle.facet_set.proofs.LinkLaws.{parts_are}
 use Rattle.local_parts.specs.Pieces.{subset_of_size, subsets_below, largest_subsets}
-use Rattle.local_parts.proofs.AroundLaws.{agree, parts_are, sets}
 
 either : (n m : ℕ) → n ≤ suc m → (n ≡ suc m) ⊎ (n ≤ m)
 either n m h = elim (eqb n (suc m)) as (λ v. eqb n (suc m) ≡ v → (n ≡ suc m) ⊎ (n ≤ m)) [
@@ -131,13 +132,10 @@ tops_sets n c h = all_from is_set (tops n c) (λ t i.
 le_from : (a b : ℕ) → a ≤ b → nat_le a b ≡ true
 le_from a b h = grind (arith, nat_tests)
 
-le_at : (a b : ℕ) → nat_le a b ≡ true → a ≤ b
-le_at a b h = grind (arith, nat_tests)
-
 -- the code's limit: no face has more than 12 labels
 pub skeleton_is : (k n : ℕ) (c : List (List ℕ)) → n ≡ min k 11 + 1 → list_all is_simplex c ≡ true → generated (tops n c) ≡ skeleton c k
 skeleton_is k n c e h =
-    parts_are (λ b. nat_le (length b) (k + 1)) c (tops n c) (sets c h) (tops_sets n c h) (λ b s.
+    parts_are (λ b. nat_le (length b) (k + 1)) c (tops n c) (sets_of c h) (tops_sets n c h) (λ b s.
     agree (is_face (tops n c) b) (is_face c b && nat_le (length b) (k + 1))
     (λ f.
     let r = face_at (tops n c) b f in
@@ -147,10 +145,10 @@ skeleton_is k n c e h =
     and_both _ _ (face_from c b m.0 m.1 (within_trans b r.0 m.0 r.2 q.below)) (le_from (length b) (k + 1) (omega (arith, q.short))))
     (λ f.
     let r = face_at c b (and_left _ _ f) in
-    let set : is_set r.0 ≡ true = all_at is_set r.0 c (sets c h) r.1 in
+    let set : is_set r.0 ≡ true = all_at is_set r.0 c (sets_of c h) r.1 in
     let l = within_length b r.0 s set r.2 in
     let m = short_of r.0 (all_at is_simplex r.0 c h r.1) in
     let p = le_at (length b) (k + 1) (and_right (is_face c b) _ f) in
     let q = in_largest n r.0 b set s r.2 (omega arith) in
     face_from (tops n c) b q.0 (in_flat_map (largest_subsets n) r.0 q.0 c r.1 q.1) q.2)
-    ∙ sym (is_face-faces_where (λ b. nat_le (length b) (k + 1)) c (sets c h) (λ u t p q w g. let l = within_length u t p q w in let j = le_at (length t) (k + 1) g in le_from (length u) (k + 1) (omega arith)) b s))
+    ∙ sym (is_face-faces_where (λ b. nat_le (length b) (k + 1)) c (sets_of c h) (λ u t p q w g. let l = within_length u t p q w in let j = le_at (length t) (k + 1) g in le_from (length u) (k + 1) (omega arith)) b s))

@@ -1,10 +1,8 @@
 -- Strong connection by the pairs of facets with a common ridge.
 use Rattle.std.proofs.Common.{◌≡◌, ℕ, zero, suc, ◌+◌, ◌<◌, ◌≤◌, Bool, true, false, not, ◌&&◌, nat_le, List, [], ◌∷◌, ◌++◌, map, length, take, get_or, refl, sym, ap, ◌∙◌, subst, ◌⊎◌, inl, inr, arith}
-use mathlib.Core.Bool.{true≢false}
 use Rattle.std.specs.Prelude.{◌==◌, Option, Some, None}
 use Rattle.std.specs.Ordering.{is_lt, nat_cmp}
 use Rattle.std.specs.List.{list_all, range_with_len}
-use Rattle.std.proofs.lemmas.Cmp.{nat_list_cmp_total, tied_itself}
 use Rattle.std.proofs.lemmas.Bool.Decides.{nat_tests}
 use Rattle.std.proofs.lemmas.List.{take_more, take_all}
 use Rattle.simplex.specs.InOrder.{is_increasing}
@@ -13,16 +11,18 @@ use Rattle.simplex.specs.Simplex.{has, is_within, without, common, simplex_cmp}
 use Rattle.simplex.proofs.InOrderLaws.{and_left, and_right}
 use Rattle.simplex.proofs.Members.{cases, none, all_at, in_filter, from_filter, in_map, from_map, in_left, in_right, in_either}
 use Rattle.simplex.proofs.SimplexLaws.{has_at, has_from, in_within, within_length, within_same, is_increasing-filter, from_without}
+use Rattle.simplex.proofs.Ranges.{in_range}
 use Rattle.facet_set.specs.Numbers.{size, is_pure}
 use Rattle.facet_set.specs.Connection.{Chain, here, step, classes, share_ridge, is_strong}
 use Rattle.facet_set.proofs.ComplexLaws.{is_set}
 use Rattle.facet_set.proofs.FlipLaws.{pure_at, length-without}
+use Rattle.facet_set.proofs.SetLaws.{in_place}
+use Rattle.facet_set.proofs.FacetLaws.{not_below_itself}
 use Rattle.local_parts.specs.Forest.{HasChains}
 use Rattle.local_parts.specs.Pairs.{ridge_places, IsTied}
 use Rattle.local_parts.proofs.CountLaws.{classes_at}
-use Rattle.local_parts.proofs.ForestLaws.{in_range, in_place}
 use Rattle.local_parts.proofs.PlaceLaws.{listed}
-use Rattle.local_parts.proofs.RidgeLaws.{lacking_in}
+use Rattle.local_parts.proofs.RidgeLaws.{lacking_in, size_at, size_is}
 
 -- ---- the ridges with the places of their facets
 
@@ -172,21 +172,12 @@ common_length s t h k =
     let b = within_length (common t s) (common s t) (is_increasing-filter nat_cmp (has s) t k) (is_increasing-filter nat_cmp (has t) s h) (common_within t s) in
     omega arith
 
-not_below_itself : (s : List ℕ) → is_lt (simplex_cmp s s) ≡ true → ⊥
-not_below_itself s h = true≢false (sym h ∙ ap is_lt (tied_itself nat_list_cmp_total s))
-
 one_place : (c : List (List ℕ)) (i j : ℕ) → is_increasing simplex_cmp c ≡ true → i < length c → j < length c → facet_at c i ≡ facet_at c j → i ≡ j
 one_place [] i j u h k e = absurd (omega arith)
 one_place (s ∷ c) zero zero u h k e = refl
 one_place (s ∷ c) zero (suc j) u h k e = absurd (not_below_itself s (subst (λ x. is_lt (simplex_cmp s x) ≡ true) (sym e) (all_at (λ y. is_lt (simplex_cmp s y)) (facet_at c j) c (and_left _ _ u) (in_place c j [] (omega arith)))))
 one_place (s ∷ c) (suc i) zero u h k e = absurd (not_below_itself s (subst (λ x. is_lt (simplex_cmp s x) ≡ true) e (all_at (λ y. is_lt (simplex_cmp s y)) (facet_at c i) c (and_left _ _ u) (in_place c i [] (omega arith)))))
 one_place (s ∷ c) (suc i) (suc j) u h k e = ap suc (one_place c i j (and_right (list_all (λ y. is_lt (simplex_cmp s y)) c) _ u) (omega arith) (omega arith) e)
-
-size_is : (n k : ℕ) → n + 1 ≡ k → (n + 1 == k) ≡ true
-size_is n k e = grind (arith, nat_tests)
-
-size_of : (n k : ℕ) → (n + 1 == k) ≡ true → n + 1 ≡ k
-size_of n k e = grind (arith, nat_tests)
 
 module _ (c : List (List ℕ)) (sets : list_all is_set c ≡ true) (pure : is_pure c ≡ true) (up : is_increasing simplex_cmp c ≡ true) where
   abbrev pub joined : ℕ → ℕ → Bool
@@ -236,13 +227,13 @@ module _ (c : List (List ℕ)) (sets : list_all is_set c ≡ true) (pure : is_pu
         subst (λ n. Chain joined (range_with_len 0 (length c)) n q.1) (sym ex) (subst (λ n. Chain joined (range_with_len 0 (length c)) x.place n) (sym ey)
         (elim (x.place == y.place) as (λ v. (x.place == y.place) ≡ v → Chain joined (range_with_len 0 (length c)) x.place y.place) [
           | true ↦ λ e. subst (λ n. Chain joined (range_with_len 0 (length c)) x.place n) (equal x.place y.place e) here
-          | false ↦ λ e. step (shared x.place y.place x.label y.label x.within y.within (differ x.place y.place e) x.lies (sym x.ridge ∙ y.ridge)) (in_range (length c) 0 y.place (omega arith) (omega (arith, y.within))) here
+          | false ↦ λ e. step (shared x.place y.place x.label y.label x.within y.within (differ x.place y.place e) x.lies (sym x.ridge ∙ y.ridge)) (in_range 0 (length c) y.place (omega arith) (omega (arith, y.within))) here
         ] refl));
     spanned = λ f h i j k l e.
         let s : List ℕ = facet_at c i in
         let u : List ℕ = facet_at c j in
         let r : List ℕ = common s u in
-        let n = size_of (length r) (size c) e in
+        let n = size_at (length r) (size c) e in
         let set : is_set r ≡ true = is_increasing-filter nat_cmp (has u) s (set_at c i sets) in
         let one = lacking_in s r (set_at c i sets) set (omega (arith, n, long i k)) (in_within r s (λ x m. (from_filter (has u) x s m).0)) in
         let two = lacking_in u r (set_at c j sets) set (omega (arith, n, long j l)) (in_within r u (λ x m. has_at u x (from_filter (has u) x s m).1)) in

@@ -3,12 +3,7 @@ use Rattle.std.specs.Prelude.{ℕ, zero, suc, ◌+◌, ◌-◌, ◌^◌, nat_eq,
 use Rattle.std.specs.List.{filter, flat_map}
 use Rattle.std.specs.Cmp.Lexicographic.{pointwise}
 use Rattle.std.specs.HashMap.{HashMap, get}
-use Rattle.simplex.specs.Simplex.{is_within, minus, without, subset_at}
-use Rattle.facet_set.specs.Complex.{facets_with}
-
--- the facets that contain the simplex, less its labels
-abbrev pub link_pieces : List (List ℕ) → List ℕ → List (List ℕ)
-link_pieces c a = map (λ s. minus s a) (facets_with c a)
+use Rattle.simplex.specs.Simplex.{is_within, without, subset_at}
 
 -- of a facet: itself, or where it contains the simplex, the facet less one of the simplex's labels each
 abbrev pub pieces : List ℕ → List ℕ → List (List ℕ)

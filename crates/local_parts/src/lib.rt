@@ -9,8 +9,6 @@ mod pieces;
 mod ridge_counts;
 mod ridges;
 mod skeletons;
-#[cfg(test)]
-mod tests;
 mod vertex_classes;
 
 pub use around::{deletion, link, star};

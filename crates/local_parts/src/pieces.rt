@@ -3,7 +3,8 @@ ghost use Rattle.std.specs.Prelude.{◌≡◌, ◌++◌, map, IfOk, OnOk};
 ghost use Rattle.std.specs.List.{flat_map};
 ghost use Rattle.simplex.specs.Simplex.{without};
 ghost use Rattle.facet_set.specs.Complex.{facets_with};
-ghost use Rattle.local_parts.specs.Pieces.{pieces, link_pieces};
+ghost use Rattle.facet_set.specs.Parts.{link_pieces};
+ghost use Rattle.local_parts.specs.Pieces.{pieces};
 
 use simplex::{Memory, Simplex};
 use std::alloc::{AllocError, Global};

@@ -13,19 +13,19 @@ use Rattle.simplex.specs.SimplexFault.{set}
 use Rattle.simplex.proofs.InOrderLaws.{and_left, and_right, and_both, is_increasing-in_order, itself}
 use Rattle.simplex.proofs.Members.{In, cases, at_head, none, is_member_from, in_either, all_at, all_from}
 use Rattle.simplex.proofs.SimplexLaws.{above_at, rest_increasing, has_from}
+use Rattle.simplex.proofs.Decided.{false_from, false_at, not_true, agree, equal_at, equal_from}
 use Rattle.facet_set.specs.Complex.{is_complex, verts, stands_in}
 use Rattle.facet_set.specs.Flips.{same_facets}
-use Rattle.facet_set.specs.Maps.{image, image_of, is_distinct, is_map}
-use Rattle.facet_set.proofs.ComplexLaws.{exact}
+use Rattle.facet_set.specs.Maps.{image, image_of, is_distinct, is_map, relabelled}
+use Rattle.facet_set.proofs.ComplexLaws.{exact, sets_of}
 use Rattle.facet_set.proofs.FlipLaws.{same_list}
 use Rattle.facet_set.proofs.FacetLaws.{lists_at, lists_itself}
 use Rattle.facet_set.proofs.GeneratedLaws.{same_at, same_is}
 use Rattle.facet_set.proofs.OptionLaws.{in_verts}
+use Rattle.facet_set.proofs.MapLaws.{firsts, seconds, Renames, in_image, seconds_labels}
+use Rattle.facet_set.proofs.SetLaws.{in_place, in_item, distinct_more, distinct_head, distinct_rest}
 use Rattle.relabelling.specs.Bijections.{is_map_to}
-use Rattle.relabelling.specs.Relabelled.{relabelled}
 use Rattle.relabelling.specs.Search.{makes_map}
-use Rattle.relabelling.proofs.MapLaws.{firsts, seconds, sets_of, Renames, in_image}
-use Rattle.relabelling.proofs.SetLaws.{false_from, false_at, not_true, agree, equal_at, equal_from, in_place, in_item, distinct_more, distinct_head, distinct_rest}
 
 -- the image of the label at a place is that at the place
 pub image_at : (vs is t : List ℕ) (a i : ℕ) → is_increasing nat_cmp vs ≡ true → i < length vs → get_or vs i 0 ≡ a → i < length is → image_of (zip vs (is ++ t)) a ≡ get_or is i 0
@@ -83,10 +83,6 @@ pub zip_next : (xs ys : List ℕ) (ps next : List (ℕ × ℕ)) (i : ℕ) → i 
     → next ≡ zip (take (i + 1) xs) (take (i + 1) ys)
 zip_next xs ys ps next i h e g n =
     n ∙ ap (λ l. l ++ (get_or xs i 0, get_or ys i 0) ∷ []) g ∙ zip_both xs ys i h (omega arith) ∙ ap (λ j. zip (take j xs) (take j ys)) (sym (add-one i))
-
-seconds_labels : (m : List (ℕ × ℕ)) → list_all is_label (seconds m) ≡ true → list_all (λ (p : ℕ × ℕ). is_label p.1) m ≡ true
-seconds_labels [] h = refl
-seconds_labels (p ∷ m) h = and_both _ _ (and_left _ _ h) (seconds_labels m (and_right (is_label p.1) _ h))
 
 pub pairs_labels : (vs is : List ℕ) (ps : List (ℕ × ℕ)) → ps ≡ zip vs is → length is ≡ length vs → list_all is_label is ≡ true → list_all (λ (p : ℕ × ℕ). is_label p.1) ps ≡ true
 pairs_labels vs is ps e n h = seconds_labels ps (ap (λ m. list_all is_label (seconds m)) e ∙ ap (list_all is_label) (seconds-zip vs is n) ∙ h)

@@ -15,18 +15,18 @@ use Rattle.simplex.specs.Simplex.{has, is_simplex, simplex_cmp}
 use Rattle.simplex.proofs.InOrderLaws.{and_left, and_right}
 use Rattle.simplex.proofs.Members.{In, first, later, at_head, all_at, from_map, from_in_order}
 use Rattle.simplex.proofs.SimplexLaws.{has_at, has_from, in_within, above_at, rest_increasing}
+use Rattle.simplex.proofs.Decided.{false_from, agree, equal_at}
 use Rattle.facet_set.specs.Complex.{is_complex, simplices, verts}
-use Rattle.facet_set.specs.Maps.{image, image_of, is_map}
+use Rattle.facet_set.specs.Maps.{image, image_of, is_map, relabelled}
 use Rattle.facet_set.proofs.ComplexLaws.{exact, is_set}
 use Rattle.facet_set.proofs.FlipLaws.{same_list}
 use Rattle.facet_set.proofs.OptionLaws.{in_verts, from_verts}
+use Rattle.facet_set.proofs.MapLaws.{Renames, image_apart, image_is, facet_same, within_back, in_relabelled, from_relabelled}
+use Rattle.facet_set.proofs.SetLaws.{in_place}
 use Rattle.relabelling.specs.Bijections.{is_map_to}
 use Rattle.relabelling.specs.Colours.{total, capped, mix, facet_colour, added, share, next_colour, complex_colour, KeepsColours}
-use Rattle.relabelling.specs.Relabelled.{relabelled}
 use Rattle.relabelling.proofs.CarryLaws.{map_renames}
-use Rattle.relabelling.proofs.MapLaws.{Renames, image_apart, image_is, facet_same, within_back, in_relabelled, from_relabelled}
 use Rattle.relabelling.proofs.SeekLaws.{has_end}
-use Rattle.relabelling.proofs.SetLaws.{false_from, agree, equal_at, in_place}
 
 -- ---- sums
 module _ {X : Type 0} where

@@ -6,30 +6,30 @@ use Rattle.std.specs.HashMap.{HashMap, get}
 use Rattle.std.specs.Map.{lookup}
 use Rattle.std.specs.Ordering.{nat_cmp}
 use Rattle.std.specs.Cmp.Lexicographic.{pointwise}
-use Rattle.std.specs.List.{list_all, find, zip, flat_map}
-use Rattle.std.proofs.lemmas.Cmp.{nat_cmp_total, nat_list_cmp_total}
+use Rattle.std.specs.List.{list_all, find, zip}
+use Rattle.std.proofs.lemmas.Cmp.{nat_list_cmp_total}
 use Rattle.simplex.specs.InOrder.{is_increasing}
 use Rattle.simplex.specs.Simplex.{is_label, is_simplex}
 use Rattle.simplex.specs.SimplexFault.{set}
 use Rattle.simplex.proofs.FaultLaws.{length-set}
 use Rattle.simplex.proofs.Filled.{labels_of, rising_of}
-use Rattle.simplex.proofs.InOrderLaws.{and_left, and_right, and_both, is_increasing-in_order, itself}
+use Rattle.simplex.proofs.InOrderLaws.{and_left, and_right, and_both, itself}
 use Rattle.simplex.proofs.Members.{In, first, later, cases, none, all_at, all_from, in_map, from_map, is_member_at}
 use Rattle.simplex.proofs.SimplexLaws.{in_within, within_length, above_at, rest_increasing}
+use Rattle.simplex.proofs.Decided.{false_from, false_at, equal_at, equal_from}
 use Rattle.facet_set.specs.Complex.{is_complex, stands_in, verts}
 use Rattle.facet_set.specs.Flips.{same_facets}
-use Rattle.facet_set.specs.Maps.{image, image_of, is_map}
-use Rattle.facet_set.proofs.ComplexLaws.{exact, from_generated}
+use Rattle.facet_set.specs.Maps.{image, image_of, is_map, relabelled, becomes}
+use Rattle.facet_set.proofs.ComplexLaws.{exact, from_generated, verts_increase}
 use Rattle.facet_set.proofs.FlipLaws.{same_list}
 use Rattle.facet_set.proofs.GeneratedLaws.{same_at, same_is}
 use Rattle.facet_set.proofs.OptionLaws.{in_verts, from_verts}
+use Rattle.facet_set.proofs.MapLaws.{firsts, seconds, image_pair, in_relabelled, from_relabelled}
+use Rattle.facet_set.proofs.SetLaws.{in_set, from_set, set_up, distinct_length, length_distinct, length_images}
 use Rattle.relabelling.specs.Bijections.{is_map_to, maps, goes_to, extension}
-use Rattle.relabelling.specs.Relabelled.{relabelled, becomes}
 use Rattle.relabelling.specs.Walks.{IsKnown, AreLabels, Extends, NoneAgrees, map_of}
 use Rattle.relabelling.proofs.CarryLaws.{facet_carried}
-use Rattle.relabelling.proofs.MapLaws.{firsts, seconds, image_pair, in_relabelled, from_relabelled}
 use Rattle.relabelling.proofs.MapsLaws.{in_maps, from_maps, firsts_at, firsts_distinct, same_pairs, images_there}
-use Rattle.relabelling.proofs.SetLaws.{false_from, false_at, equal_at, equal_from, in_set, from_set, set_up, distinct_length, length_distinct, length_images}
 use Rattle.relabelling.proofs.WalkLaws.{agrees_at, becomes_at, becomes_label}
 
 -- ---- the given images
@@ -100,11 +100,8 @@ images_only c d m f g b i =
     let a = from_relabelled m t.0 b (subst (λ l. In b l) t.2 s.2) in
     in_set b (seconds m) (subst (λ z. In z (seconds m)) (sym a.2) (in_map (λ (p : ℕ × ℕ). p.1) (a.0, image_of m a.0) m (image_pair m a.0 (subst (λ l. In a.0 l) (sym f) (in_verts c t.0 a.0 t.1 a.1)))))
 
-verts_set : (c : List (List ℕ)) → is_increasing nat_cmp (verts c) ≡ true
-verts_set c = is_increasing-in_order nat_cmp_total (flat_map (λ s. s) c)
-
 no_more : (c d : List (List ℕ)) (m : List (ℕ × ℕ)) → firsts m ≡ verts c → same_facets (image m c) d ≡ true → length (verts d) ≤ length (set (seconds m))
-no_more c d m f g = within_length (verts d) (set (seconds m)) (verts_set d) (set_up (seconds m)) (in_within (verts d) (set (seconds m)) (images_only c d m f g))
+no_more c d m f g = within_length (verts d) (set (seconds m)) (verts_increase d) (set_up (seconds m)) (in_within (verts d) (set (seconds m)) (images_only c d m f g))
 
 seconds_long : (c : List (List ℕ)) (m : List (ℕ × ℕ)) → firsts m ≡ verts c → length (seconds m) ≡ length (verts c)
 seconds_long c m f = length_images (λ (p : ℕ × ℕ). p.1) m ∙ sym (length_images (λ (p : ℕ × ℕ). p.0) m) ∙ ap length f
@@ -116,7 +113,7 @@ as_many c d m h k g =
     let long = seconds_long c m f in
     let whole = length_distinct (seconds m) (and_right (pointwise nat_eq (firsts m) (verts c)) _ (and_left _ _ g)) in
     let most = no_more c d m f (and_right (is_map m c) _ g) in
-    let least = within_length (set (seconds m)) (verts d) (set_up (seconds m)) (verts_set d) (in_within (set (seconds m)) (verts d) (λ b i. images_there c d m h k g b (from_set b (seconds m) i))) in
+    let least = within_length (set (seconds m)) (verts d) (set_up (seconds m)) (verts_increase d) (in_within (set (seconds m)) (verts d) (λ b i. images_there c d m h k g b (from_set b (seconds m) i))) in
     omega arith
 
 -- pairs that carry c to as many vertices are a bijection

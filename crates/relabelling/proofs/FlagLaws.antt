@@ -1,22 +1,22 @@
 -- Orders of a facet's labels that the labels of another facet may go to.
-use Rattle.std.proofs.Common.{◌≡◌, ℕ, zero, suc, ◌+◌, ◌<◌, Bool, true, false, not, ◌&&◌, ◌||◌, List, [], ◌∷◌, ◌++◌, map, length, length-append, length-take, take, get_or, refl, sym, ap, ◌∙◌, subst, inl, inr, arith}
+use Rattle.std.proofs.Common.{◌≡◌, ℕ, zero, suc, ◌+◌, ◌<◌, true, false, not, ◌||◌, List, [], ◌∷◌, ◌++◌, map, length, length-append, length-take, take, get_or, refl, sym, ap, ◌∙◌, subst, inl, inr, arith}
 use Rattle.std.specs.Prelude.{◌==◌}
 use Rattle.std.specs.Bool.{IsTrue}
 use Rattle.std.specs.List.{list_all, filter, flat_map}
 use Rattle.std.proofs.lemmas.List.{take_more, get_or-map}
 use Rattle.simplex.specs.Simplex.{has, is_label, is_simplex}
-use Rattle.simplex.proofs.InOrderLaws.{and_left, and_right, and_both}
-use Rattle.simplex.proofs.Members.{In, first, later, cases, none, all_at, in_map, from_map, in_filter, from_filter, in_flat_map, from_flat_map}
-use Rattle.facet_set.specs.Maps.{image_of, is_distinct}
+use Rattle.simplex.proofs.InOrderLaws.{and_left, and_both}
+use Rattle.simplex.proofs.Members.{In, first, cases, none, all_at, in_map, from_map, in_filter, from_filter, in_flat_map, from_flat_map}
+use Rattle.simplex.proofs.Decided.{false_from, equal_at, equal_from}
+use Rattle.facet_set.specs.Maps.{image_of, is_distinct, relabelled}
 use Rattle.facet_set.proofs.ComplexLaws.{is_set}
 use Rattle.facet_set.proofs.OptionLaws.{in_verts}
+use Rattle.facet_set.proofs.MapLaws.{Renames, distinct_images}
+use Rattle.facet_set.proofs.SetLaws.{in_place, in_set, distinct_head, distinct_rest, length_images}
 use Rattle.relabelling.specs.Bijections.{is_map_to}
 use Rattle.relabelling.specs.Colours.{KeepsColours}
 use Rattle.relabelling.specs.Flags.{AreOrders, Fits, longer, may_follow}
-use Rattle.relabelling.specs.Relabelled.{relabelled}
 use Rattle.relabelling.proofs.CarryLaws.{labels_end, map_renames}
-use Rattle.relabelling.proofs.MapLaws.{Renames, distinct_images}
-use Rattle.relabelling.proofs.SetLaws.{false_from, false_at, equal_at, equal_from, in_place, in_set, distinct_head, distinct_rest, length_images}
 
 -- ---- one label after another
 not_before : (xs : List ℕ) (k : ℕ) → is_distinct xs ≡ true → k < length xs → has (take k xs) (get_or xs k 0) ≡ false

@@ -4,26 +4,25 @@ use Rattle.std.specs.Prelude.{◌==◌, nat_le}
 use Rattle.std.specs.Ordering.{nat_cmp}
 use Rattle.std.specs.List.{list_any, list_all, filter, flat_map}
 use Rattle.std.specs.FinMap.{nat_cmp-IsAntisymmetric}
-use Rattle.std.proofs.lemmas.Bool.Decides.{nat_tests}
 use Rattle.std.proofs.lemmas.Cmp.{nat_cmp_total}
 use Rattle.simplex.specs.Simplex.{has, common, is_within, is_simplex}
 use Rattle.simplex.specs.SimplexFault.{set}
 use Rattle.simplex.proofs.InOrderLaws.{and_left, and_right, and_both}
 use Rattle.simplex.proofs.Members.{In, first, later, cases, none, all_at, in_filter, from_filter, same_sets}
 use Rattle.simplex.proofs.SimplexLaws.{has_at, has_from, in_within, is_increasing-filter, within_length}
+use Rattle.simplex.proofs.Decided.{le_at, false_at, agree, equal_at, equal_from}
 use Rattle.facet_set.specs.Complex.{is_complex, facets_with, faces}
 use Rattle.facet_set.specs.Connection.{Chain, here, step, classes, share_ridge, is_closed, is_strong}
-use Rattle.facet_set.specs.Maps.{image, image_of, is_map}
+use Rattle.facet_set.specs.Maps.{image, image_of, is_map, relabelled}
 use Rattle.facet_set.specs.Numbers.{size, is_pure, degree}
 use Rattle.facet_set.specs.Parts.{ridges}
 use Rattle.facet_set.proofs.ClassLaws.{from_class, in_class, chain_in}
 use Rattle.facet_set.proofs.ComplexLaws.{is_set, in_faces, face_from}
 use Rattle.facet_set.proofs.FlipLaws.{pure_at, same_list}
+use Rattle.facet_set.proofs.MapLaws.{Renames, image_apart, in_relabelled, from_relabelled, from_image}
+use Rattle.facet_set.proofs.SetLaws.{from_set, set_up, length_distinct, distinct_more, increasing_distinct}
 use Rattle.relabelling.specs.Bijections.{is_map_to}
-use Rattle.relabelling.specs.Relabelled.{relabelled}
 use Rattle.relabelling.proofs.CarryLaws.{map_renames, facet_carried}
-use Rattle.relabelling.proofs.MapLaws.{Renames, image_apart, in_relabelled, from_relabelled, from_image}
-use Rattle.relabelling.proofs.SetLaws.{false_at, agree, equal_at, equal_from, from_set, set_up, length_distinct, distinct_more, increasing_distinct}
 
 -- ---- two facets and what they share
 pair : (x p q : List ℕ) → In x (p ∷ q ∷ []) → (x ≡ p) ⊎ (x ≡ q)
@@ -184,9 +183,6 @@ shared_even c s t =
         let p = and_left (is_set s) (is_set t) (and_left (is_set s && is_set t) _ h) in
         let q = and_right (is_set s) (is_set t) (and_left (is_set s && is_set t) _ h) in
         and_both _ _ (and_both _ _ q p) (ap (λ l. length l + 1 == size c) (common_swap t s q p) ∙ and_right (is_set s && is_set t) _ h)
-
-le_at : (a b : ℕ) → nat_le a b ≡ true → a ≤ b
-le_at a b h = grind (arith, nat_tests)
 
 single : {X : Type 0} (ks : List X) (k l : X) → nat_le (length ks) 1 ≡ true → In k ks → In l ks → k ≡ l
 single [] k l h i j = absurd (none k i)

@@ -5,16 +5,17 @@ use Rattle.std.specs.Cmp.Lexicographic.{pointwise}
 use Rattle.simplex.proofs.InOrderLaws.{and_left, and_right}
 use Rattle.simplex.proofs.Members.{In}
 use Rattle.simplex.specs.Simplex.{has}
+use Rattle.simplex.proofs.Decided.{false_from, false_at, equal_at, equal_from}
 use Rattle.facet_set.specs.Complex.{verts}
 use Rattle.facet_set.specs.Maps.{image_of, is_map}
 use Rattle.facet_set.proofs.GeneratedLaws.{same_at}
+use Rattle.facet_set.proofs.MapLaws.{firsts, image_apart}
+use Rattle.facet_set.proofs.SetLaws.{in_place}
 use Rattle.relabelling.specs.Bijections.{first_map}
 use Rattle.relabelling.specs.Colours.{mix, KeepsColours, StillKept, NoneKeeps}
 use Rattle.relabelling.specs.Search.{makes_map, seek, branch, LeadsKeepColours, LeadsNowhere}
 use Rattle.relabelling.proofs.CarryLaws.{image_at, verts_up}
-use Rattle.relabelling.proofs.MapLaws.{firsts, image_apart}
 use Rattle.relabelling.proofs.SeekLaws.{seek_none, first_sought}
-use Rattle.relabelling.proofs.SetLaws.{false_from, false_at, equal_at, equal_from, in_place}
 
 at_end : (is : List ℕ) (a : ℕ) → get_or (is ++ a ∷ []) (length is) 0 ≡ a
 at_end [] a = refl

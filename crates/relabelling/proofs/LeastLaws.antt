@@ -6,28 +6,29 @@ use Rattle.std.specs.declared.cmp.Ordering.TheVariants.{Less, Equal, Greater}
 use Rattle.std.specs.Prelude.{nat_eq, slice_get}
 use Rattle.std.specs.Bool.{IsTrue}
 use Rattle.std.specs.Cmp.Lexicographic.{pointwise}
-use Rattle.std.specs.List.{find, filter, flat_map, list_all, zip}
+use Rattle.std.specs.List.{find, flat_map, list_all, zip}
 use Rattle.std.proofs.lemmas.Bool.Decides.{nat_tests}
 use Rattle.std.proofs.lemmas.Cmp.{nat_cmp_total, nat_list_cmp_total}
 use Rattle.std.proofs.lemmas.List.{take_more}
 use Rattle.std.proofs.lemmas.Slice.Zip.{seconds-zip}
 use Rattle.simplex.specs.InOrder.{is_increasing}
 use Rattle.simplex.specs.Simplex.{is_simplex, simplex_cmp, without}
-use Rattle.simplex.proofs.InOrderLaws.{and_left, and_right, and_both, is_increasing-in_order}
+use Rattle.simplex.proofs.InOrderLaws.{and_left, and_right, and_both, is_increasing-in_order, less_is}
 use Rattle.simplex.proofs.Members.{In, first, later, cases, none, all_at, all_from, in_either, from_map, from_flat_map}
-use Rattle.simplex.proofs.SimplexLaws.{above_at, rest_increasing, is_increasing-filter}
+use Rattle.simplex.proofs.SimplexLaws.{rest_increasing, is_increasing-filter}
+use Rattle.simplex.proofs.Decided.{false_from, false_at, equal_from}
 use Rattle.facet_set.specs.Complex.{is_complex, verts}
 use Rattle.facet_set.specs.Connection.{is_closed, is_strong}
 use Rattle.facet_set.specs.Maps.{image_of}
 use Rattle.facet_set.proofs.GeneratedLaws.{same_at}
+use Rattle.facet_set.proofs.MapLaws.{firsts, seconds}
+use Rattle.facet_set.proofs.FacetLaws.{rising_join}
 use Rattle.relabelling.specs.Bijections.{arrangements, is_map_to, maps, first_map, goes_to, extension}
 use Rattle.relabelling.specs.Least.{comes_before, lesser, Improves, IsBeaten, Reaches}
 use Rattle.relabelling.proofs.ExtendLaws.{find_one}
 use Rattle.relabelling.proofs.LeadLaws.{no_first}
-use Rattle.relabelling.proofs.MapLaws.{firsts, seconds}
 use Rattle.relabelling.proofs.MapsLaws.{zip_parts, firsts_at, in_maps, from_maps, images_arranged, one_by_facet_lem}
 use Rattle.relabelling.proofs.SeekLaws.{first_kept, arrangement_length}
-use Rattle.relabelling.proofs.SetLaws.{false_from, false_at, equal_from}
 use Rattle.relabelling.proofs.WalkLaws.{same_test}
 
 -- ---- lists of labels in order
@@ -35,11 +36,6 @@ not_less : (r : Ordering) → is_lt r ≡ false → (r ≡ Equal) ⊎ (r ≡ Gre
 not_less Less h = cc
 not_less Equal h = inl refl
 not_less Greater h = inr refl
-
-less_at : (r : Ordering) → is_lt r ≡ true → r ≡ Less
-less_at Less h = refl
-less_at Equal h = cc
-less_at Greater h = cc
 
 less_away : (r : Ordering) → is_lt r ≡ true → is_lt (ordering_reverse r) ≡ false
 less_away Less h = refl
@@ -49,7 +45,7 @@ less_away Greater h = cc
 -- what is not before the second is not before what is not after the second
 not_before_on : (x y z : List ℕ) → is_lt (simplex_cmp x y) ≡ false → is_lt (simplex_cmp y z) ≡ false → is_lt (simplex_cmp x z) ≡ false
 not_before_on x y z h k = false_from (is_lt (simplex_cmp x z)) (λ l.
-    let less = less_at (simplex_cmp x z) l in
+    let less = less_is (simplex_cmp x z) l in
     elim (not_less (simplex_cmp x y) h) [
       | inl e ↦ false_at (is_lt (simplex_cmp y z)) k (ap is_lt (sym (nat_list_cmp_total.congr x y z e) ∙ less))
       | inr e ↦
@@ -100,7 +96,7 @@ same_head : (a : ℕ) (t u : List ℕ) → simplex_cmp (a ∷ t) (a ∷ u) ≡ s
 same_head a t u = ap (λ r. ordering_then r (simplex_cmp t u)) (nat_itself a)
 
 less_head : (a b : ℕ) (t u : List ℕ) → is_lt (nat_cmp a b) ≡ true → is_lt (simplex_cmp (a ∷ t) (b ∷ u)) ≡ true
-less_head a b t u h = ap (λ r. is_lt (ordering_then r (simplex_cmp t u))) (less_at (nat_cmp a b) h)
+less_head a b t u h = ap (λ r. is_lt (ordering_then r (simplex_cmp t u))) (less_is (nat_cmp a b) h)
 
 behind_increasing : (a : ℕ) (ts : List (List ℕ)) → is_increasing simplex_cmp ts ≡ true → is_increasing simplex_cmp (map (λ t. a ∷ t) ts) ≡ true
 behind_increasing a [] h = refl
@@ -111,17 +107,10 @@ behind_increasing a (t ∷ ts) h =
     ap (λ z. is_lt (simplex_cmp (a ∷ t) z)) u.2 ∙ ap is_lt (same_head a t u.0) ∙ all_at (λ z. is_lt (simplex_cmp t z)) u.0 ts (and_left _ _ h) u.1))
     (behind_increasing a ts (and_right (list_all (λ z. is_lt (simplex_cmp t z)) ts) _ h))
 
-append_increasing : (xs ys : List (List ℕ)) → is_increasing simplex_cmp xs ≡ true → is_increasing simplex_cmp ys ≡ true → ((x y : List ℕ) → In x xs → In y ys → is_lt (simplex_cmp x y) ≡ true) → is_increasing simplex_cmp (xs ++ ys) ≡ true
-append_increasing [] ys h k f = k
-append_increasing (x ∷ xs) ys h k f =
-    and_both _ _
-    (all_from (λ y. is_lt (simplex_cmp x y)) (xs ++ ys) (λ y i. elim (in_either y xs ys i) [ inl j ↦ all_at (λ z. is_lt (simplex_cmp x z)) y xs (and_left _ _ h) j | inr j ↦ f x y first j ]))
-    (append_increasing xs ys (and_right (list_all (λ z. is_lt (simplex_cmp x z)) xs) _ h) k (λ z y i j. f z y (later i) j))
-
 rows_increasing : (g : ℕ → List (List ℕ)) (xs : List ℕ) → is_increasing nat_cmp xs ≡ true → ((a : ℕ) → is_increasing simplex_cmp (g a) ≡ true) → is_increasing simplex_cmp (flat_map (λ a. map (λ t. a ∷ t) (g a)) xs) ≡ true
 rows_increasing g [] h f = refl
 rows_increasing g (a ∷ xs) h f =
-    append_increasing (map (λ t. a ∷ t) (g a)) (flat_map (λ b. map (λ t. b ∷ t) (g b)) xs) (behind_increasing a (g a) (f a)) (rows_increasing g xs (rest_increasing a xs h) f) (λ x y i j.
+    rising_join (map (λ t. a ∷ t) (g a)) (flat_map (λ b. map (λ t. b ∷ t) (g b)) xs) (behind_increasing a (g a) (f a)) (rows_increasing g xs (rest_increasing a xs h) f) (λ x y i j.
     let t = from_map (λ t. a ∷ t) x (g a) i in
     let b = from_flat_map (λ b. map (λ t. b ∷ t) (g b)) y xs j in
     let u = from_map (λ t. b.0 ∷ t) y (g b.0) b.2 in
@@ -244,7 +233,7 @@ improves_beaten c d vs s o a Q v some one (n, p, e, h, l) = record {
     behind m (q ∷ n) (r, t, f, g) h l =
         let same : q ≡ p = cc in
         let less : is_lt (nat_cmp q.1 r.1) ≡ true = below q.1 r.1 (let one = ap (λ (z : ℕ × ℕ). z.1) same in omega arith) in
-        ap (λ z. comes_before z (q ∷ n)) f ∙ ap (λ o. is_lt (ordering_then o (simplex_cmp (seconds t) (seconds n)))) (nat_cmp_total.antisymm r.1 q.1 ∙ ap ordering_reverse (less_at (nat_cmp q.1 r.1) less))
+        ap (λ z. comes_before z (q ∷ n)) f ∙ ap (λ o. is_lt (ordering_then o (simplex_cmp (seconds t) (seconds n)))) (nat_cmp_total.antisymm r.1 q.1 ∙ ap ordering_reverse (less_is (nat_cmp q.1 r.1) less))
 
 -- one more item of a list
 pub item_in : {X : Type 0} (xs : List X) (i : ℕ) (d x : X) → i < length xs → In x (take (i + 1) xs) → In x (take i xs) ⊎ (x ≡ get_or xs i d)

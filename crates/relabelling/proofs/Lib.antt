@@ -5,9 +5,7 @@ pub mod FlagLaws
 pub mod ForcedLaws
 pub mod LeadLaws
 pub mod LeastLaws
-pub mod MapLaws
 pub mod MapsLaws
 pub mod RidgeLaws
 pub mod SeekLaws
-pub mod SetLaws
 pub mod WalkLaws

@@ -8,17 +8,17 @@ use Rattle.simplex.specs.Simplex.{is_simplex, without}
 use Rattle.simplex.proofs.InOrderLaws.{and_left, and_right, is_increasing-in_order}
 use Rattle.simplex.proofs.Members.{In, first, later, in_map, from_map, in_filter, from_filter, in_flat_map}
 use Rattle.simplex.proofs.SimplexLaws.{in_without}
+use Rattle.simplex.proofs.Decided.{false_from, equal_at, equal_from}
 use Rattle.facet_set.specs.Complex.{is_complex, verts}
-use Rattle.facet_set.specs.Maps.{image_of, is_distinct, is_map}
+use Rattle.facet_set.specs.Maps.{image_of, is_distinct, is_map, relabelled}
 use Rattle.facet_set.proofs.GeneratedLaws.{same_at}
 use Rattle.facet_set.proofs.OptionLaws.{in_verts, from_verts}
+use Rattle.facet_set.proofs.MapLaws.{firsts, seconds, pair_image, in_relabelled}
+use Rattle.facet_set.proofs.SetLaws.{increasing_distinct, distinct_head, distinct_rest, length_images}
 use Rattle.relabelling.specs.Bijections.{arrangements, is_map_to, maps}
 use Rattle.relabelling.specs.Laws.{MapMembers, OneByFacet}
-use Rattle.relabelling.specs.Relabelled.{relabelled}
 use Rattle.relabelling.proofs.CarryLaws.{facet_carried}
 use Rattle.relabelling.proofs.ForcedLaws.{carries, agree_everywhere}
-use Rattle.relabelling.proofs.MapLaws.{firsts, seconds, pair_image, in_relabelled}
-use Rattle.relabelling.proofs.SetLaws.{false_from, equal_at, equal_from, increasing_distinct, distinct_head, distinct_rest, length_images}
 
 pub in_arrangements : (n : ℕ) (s t : List ℕ) → length t ≡ n → is_distinct t ≡ true → ((a : ℕ) → In a t → In a s) → In t (arrangements n s)
 in_arrangements zero s [] e h f = first

@@ -14,24 +14,21 @@ use Rattle.simplex.proofs.InOrderLaws.{and_left, and_right, and_both}
 use Rattle.simplex.proofs.Filled.{short_of, labels_of, rising_of}
 use Rattle.simplex.proofs.Members.{In, first, later, cases, at_head, none, all_at, in_left, in_right, in_either, in_filter, from_filter}
 use Rattle.simplex.proofs.SimplexLaws.{has_from, in_within, within_in, is_increasing-filter, within_length, within_same, same_labels, in_without, from_without}
+use Rattle.simplex.proofs.Decided.{false_at, equal_at, equal_from}
 use Rattle.facet_set.specs.Complex.{facets_with, faces}
 use Rattle.facet_set.specs.Connection.{is_closed, share_ridge}
-use Rattle.facet_set.specs.Maps.{image_of}
+use Rattle.facet_set.specs.Maps.{image_of, relabelled}
 use Rattle.facet_set.specs.Numbers.{size, is_pure, degree}
 use Rattle.facet_set.specs.Parts.{ridges}
-use Rattle.facet_set.proofs.ComplexLaws.{is_set, same_itself, in_faces, face_from}
+use Rattle.facet_set.proofs.ComplexLaws.{is_set, same_itself, in_faces, face_from, without_set}
 use Rattle.facet_set.proofs.FlipLaws.{length-without, pure_at}
 use Rattle.facet_set.proofs.GeneratedLaws.{same_at, same_is}
-use Rattle.relabelling.specs.Relabelled.{relabelled}
+use Rattle.facet_set.proofs.MapLaws.{in_relabelled, from_relabelled}
+use Rattle.facet_set.proofs.SetLaws.{set_up, set_again, same_set}
 use Rattle.relabelling.specs.Ridges.{IsAcross, AreEnds, TellsTwo, with_end, other_end}
 use Rattle.relabelling.proofs.ForcedLaws.{Carries, apart, two_of, from_common}
-use Rattle.relabelling.proofs.MapLaws.{in_relabelled, from_relabelled}
-use Rattle.relabelling.proofs.SetLaws.{false_at, equal_at, equal_from, set_up, set_again, same_set}
 
 -- ---- a facet less one label
-without_set : (s : List ℕ) (a : ℕ) → is_set s ≡ true → is_set (without s a) ≡ true
-without_set s a h = is_increasing-filter nat_cmp _ s h
-
 out_of : (r u : List ℕ) → (is_within u r ≡ true → ⊥) → (b : ℕ) × In b u × (In b r → ⊥)
 out_of r [] f = absurd (f refl)
 out_of r (x ∷ u) f =

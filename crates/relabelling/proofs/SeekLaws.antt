@@ -8,10 +8,10 @@ use Rattle.std.proofs.lemmas.List.Folds.{find-append}
 use Rattle.simplex.specs.Simplex.{has, minus, without}
 use Rattle.simplex.proofs.Members.{In, later, cases, at_head, none, from_map, from_flat_map}
 use Rattle.simplex.proofs.SimplexLaws.{list_any-append}
+use Rattle.simplex.proofs.Decided.{agree, equal_at, equal_from}
 use Rattle.facet_set.specs.Complex.{verts}
 use Rattle.relabelling.specs.Bijections.{arrangements, is_map_to, first_map}
 use Rattle.relabelling.specs.Search.{makes_map, seek, branch}
-use Rattle.relabelling.proofs.SetLaws.{agree, equal_at, equal_from}
 
 -- the first answer along the list
 abbrev pub first_some : {X : Type 0} → (ℕ → Option X) → List ℕ → Option X

@@ -12,21 +12,19 @@ use Rattle.simplex.specs.SimplexFault.{set}
 use Rattle.simplex.proofs.InOrderLaws.{and_left}
 use Rattle.simplex.proofs.Members.{In, first, later, cases, at_head, none, all_at, in_left, in_right, in_either}
 use Rattle.simplex.proofs.SimplexLaws.{in_without}
+use Rattle.simplex.proofs.Decided.{false_at, equal_at, equal_from}
 use Rattle.facet_set.specs.Complex.{verts}
 use Rattle.facet_set.specs.Connection.{Chain, here, step, share_ridge, is_strong}
-use Rattle.facet_set.specs.Maps.{image_of}
-use Rattle.facet_set.proofs.ComplexLaws.{is_set, same_itself}
+use Rattle.facet_set.specs.Maps.{image_of, relabelled, becomes}
+use Rattle.facet_set.proofs.ComplexLaws.{is_set, same_itself, sets_of}
 use Rattle.facet_set.proofs.GeneratedLaws.{same_at, same_is}
 use Rattle.facet_set.proofs.OptionLaws.{from_verts}
 use Rattle.relabelling.specs.Bijections.{is_map_to}
-use Rattle.relabelling.specs.Relabelled.{relabelled, becomes}
 use Rattle.relabelling.specs.Ridges.{AreEnds, other_end}
-use Rattle.relabelling.specs.Walks.{IsKnown, AreLabels, Agrees, NoneAgrees, Extends, AreWays, GoesOn, is_unseen, is_that, unseen_count}
+use Rattle.relabelling.specs.Walks.{IsKnown, AreLabels, Agrees, NoneAgrees, Extends, AreWays, GoesOn, is_unseen, is_that}
 use Rattle.relabelling.specs.declared.extending.Walk.{Walk}
 use Rattle.relabelling.proofs.ForcedLaws.{carries, strong_chain}
-use Rattle.relabelling.proofs.MapLaws.{sets_of}
 use Rattle.relabelling.proofs.RidgeLaws.{closed_ends, ends_carried, told_end, told_label, across_label, across_facet, one_facet, shared_ridge}
-use Rattle.relabelling.proofs.SetLaws.{false_at, equal_at, equal_from}
 
 -- ---- what a table has
 pub some_at : (o : Option ℕ) → IsSome o → (b : ℕ) × (o ≡ Some b)

@@ -3,7 +3,6 @@ pub mod Colours
 pub mod Flags
 pub mod Laws
 pub mod Least
-pub mod Relabelled
 pub mod Ridges
 pub mod Search
 pub mod Walks

@@ -9,9 +9,8 @@ use Rattle.simplex.specs.Simplex.{is_label, is_simplex}
 use Rattle.facet_set.specs.Complex.{is_complex}
 use Rattle.facet_set.specs.Connection.{is_closed}
 use Rattle.facet_set.specs.Flips.{same_facets}
-use Rattle.facet_set.specs.Maps.{image, image_of}
+use Rattle.facet_set.specs.Maps.{image, image_of, becomes}
 use Rattle.relabelling.specs.Bijections.{is_map_to}
-use Rattle.relabelling.specs.Relabelled.{becomes}
 use Rattle.relabelling.specs.Ridges.{TellsEnds}
 use Rattle.relabelling.specs.declared.extending.Walk.{Walk}
 

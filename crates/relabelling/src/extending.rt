@@ -10,16 +10,14 @@ ghost use Rattle.simplex.specs.SimplexFault.{set};
 ghost use Rattle.facet_set.specs.Complex.{stands_in, verts};
 ghost use Rattle.facet_set.specs.Connection.{is_closed, is_strong, share_ridge};
 ghost use Rattle.facet_set.specs.Flips.{same_facets};
-ghost use Rattle.facet_set.specs.Maps.{image};
+ghost use Rattle.facet_set.specs.Maps.{image, becomes};
 ghost use Rattle.relabelling.specs.Bijections.{extension};
-ghost use Rattle.relabelling.specs.Relabelled.{becomes};
 ghost use Rattle.relabelling.specs.Ridges.{AreEnds, other_end};
 ghost use Rattle.relabelling.specs.Walks.{AreLabels, AreWays, Extends, GoesOn, IsKnown, NoneAgrees, is_that, is_unseen, map_of};
 
-use crate::relabelled::{image, image_of, with_images, with_label};
 use crate::ridges::{ends, other_end};
 use crate::search::pairs;
-use facet_set::Facets;
+use facet_set::{Facets, image, image_of, with_images, with_label};
 use simplex::{LABEL_LIMIT, Memory, Pairs, Simplex};
 use std::alloc::Global;
 use std::collections::{HashMap, HashSet};

@@ -7,11 +7,8 @@ mod flags;
 pub mod laws;
 mod leading;
 mod least;
-mod relabelled;
 mod ridges;
 mod search;
-#[cfg(test)]
-mod tests;
 
 pub use extending::extend_map;
 pub use least::first_map;

@@ -8,8 +8,7 @@ ghost use Rattle.relabelling.specs.Colours.{colour};
 ghost use Rattle.relabelling.specs.Search.{makes_map, seek, branch, LeadsKeepColours, LeadsNowhere};
 
 use crate::colours::{Colours, all_differ, colour, marked, refine};
-use crate::relabelled::image;
-use facet_set::Facets;
+use facet_set::{Facets, image};
 use simplex::Memory;
 use std::alloc::Global;
 

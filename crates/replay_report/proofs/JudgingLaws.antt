@@ -1,5 +1,5 @@
 -- What is said of a certificate.
-use Rattle.std.proofs.Common.{◌≡◌, ℕ, ◌⊎◌, inl, inr, Bool, true, false, Option, Some, None, refl, sym, ap, ◌∙◌}
+use Rattle.std.proofs.Common.{◌≡◌, ℕ, ◌⊎◌, inl, inr, true, false, Option, Some, None, refl, sym, ap, ◌∙◌}
 use Rattle.std.specs.Option.{is_none}
 use Rattle.flip_certificate.specs.declared.certificate.Certificate.{Certificate}
 use Rattle.flip_certificate.specs.Count.{flip_count}

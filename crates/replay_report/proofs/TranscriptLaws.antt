@@ -1,22 +1,23 @@
 -- The parts of texts that hold certificates.
 use Rattle.std.proofs.Common.{◌≡◌, ℕ, Bool, true, false, not, cond, ◌&&◌, List, [], ◌∷◌, ◌++◌, map, refl, sym, ap, ◌∙◌, append_assoc, append-nil, eqb}
-use Rattle.std.specs.List.{All, flat_map, list_all, onto_first}
+use Rattle.std.specs.List.{flat_map, list_all, onto_first}
 use Rattle.std.proofs.lemmas.List.Elements.{All-head, All-tail}
 use Rattle.std.proofs.lemmas.List.Folds.{list_all-append, list_all-map}
 use Rattle.std.proofs.lemmas.List.Sums.{list_all-from_AllPass}
 use Rattle.simplex.proofs.InOrderLaws.{and_left, and_right, and_both}
 use Rattle.simplex.specs.declared.flip.Flip.{Flip}
+use Rattle.simplex.proofs.Decided.{not_true}
 use Rattle.flip_certificate.specs.declared.block.Block.{Block}
 use Rattle.flip_certificate.specs.declared.certificate.Certificate.{Certificate}
 use Rattle.flip_certificate.specs.declared.certificate.Certificate.TheVariants.{Sphere, Equivalent, Manifold}
 use Rattle.flip_certificate.specs.declared.line.Line.{Line}
-use Rattle.flip_certificate.specs.declared.line.Line.TheVariants.{Heading, Complex, Move, Map, Link, End}
+use Rattle.flip_certificate.specs.declared.line.Line.TheVariants.{Heading, Complex, Move, Map, End}
 use Rattle.flip_certificate.specs.declared.line.Word.TheVariants as word
-use Rattle.flip_certificate.specs.Lines.{Spells, kind_of, line_text, text_of, block_lines}
+use Rattle.flip_certificate.specs.Lines.{kind_of, line_text, text_of, block_lines}
 use Rattle.flip_certificate.specs.Lines.{lines_of as certificate_lines}
 use Rattle.flip_certificate.proofs.EndsLaws.{no_feed, no_feed-line}
 use Rattle.replay_report.specs.Report.{lines_of, begins_part, ends_part, split_parts, parts}
-use Rattle.replay_report.specs.Laws.{SpelledIsOnePart, CertificatesAreTheParts, IsOtherLine, Piece, line, whole, IsPiece, piece_text, certificate_texts}
+use Rattle.replay_report.specs.Laws.{SpelledIsOnePart, CertificatesAreTheParts, IsOtherLine, line, whole, IsPiece, piece_text}
 use Rattle.replay_report.proofs.CuttingLaws.{passed, begun, longer}
 
 -- ---- lines of a text
@@ -71,10 +72,6 @@ all_inner (Equivalent start target first m second) = all_both (map Move first) (
 all_inner (Manifold start blocks) = all_blocks blocks
 
 -- ---- the parts
-
-not_true : (v : Bool) → not v ≡ true → v ≡ false
-not_true true e = sym e
-not_true false e = refl
 
 -- the lines behind a heading belong to its part, and that ends with them
 tail_is : (ls : List Line) (rest : List ℕ) → list_all is_inner ls ≡ true → split_parts (lines_of (text_of (ls ++ End ∷ []) ++ rest)) ≡ (text_of (ls ++ End ∷ []), parts rest)

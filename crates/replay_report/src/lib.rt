@@ -6,8 +6,6 @@ mod judging;
 mod laws;
 mod report;
 mod reporting;
-#[cfg(test)]
-mod tests;
 
 pub use cutting::line_len;
 pub use laws::{certificates_are_the_parts, spelled_is_one_part, valid_is_accepted};

@@ -6,8 +6,6 @@ mod edits;
 mod flips;
 mod laws;
 mod refusal;
-#[cfg(test)]
-mod tests;
 mod verdicts;
 
 pub use answers::{faces_reply, facets_reply, number_reply, numbers_reply, row_reply, yes_or_no};

@@ -13,12 +13,11 @@ use Rattle.std.proofs.Math.Nat.{pow-le-pow_right, pow-suc}
 use Rattle.simplex.specs.InOrder.{in_order, put}
 use Rattle.simplex.specs.Simplex.{is_simplex, simplex_cmp, subsets}
 use Rattle.facet_set.specs.Complex.{faces}
-use Rattle.facet_set.specs.Numbers.{size, weight, faces_of_size, face_count, f_vector}
+use Rattle.facet_set.specs.Numbers.{size, weight, faces_of_size, face_count, f_vector, weight_limit}
 use Rattle.face_lattice.proofs.KeyLaws.{none_longer}
 use Rattle.face_vectors.specs.Counts.{numbers, IsWithinLimits}
 use Rattle.face_vectors.specs.declared.counts.Counts.{Counts}
 use Rattle.face_vectors.specs.declared.counts.TheConstants.{COUNT_LIMIT}
-use Rattle.shell_names.specs.Limits.{weight_limit}
 
 put_more : {X : Type 0} (cmp : X → X → Ordering) (x : X) (ys : List X) → length (put cmp x ys) ≤ suc (length ys)
 put_more cmp x [] = omega arith

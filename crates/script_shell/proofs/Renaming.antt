@@ -1,24 +1,20 @@
 -- Lists of numbers as a map of the vertices.
-use Rattle.std.proofs.Common.{◌≡◌, ℕ, suc, Bool, true, false, not, ◌&&◌, List, [], ◌∷◌, map, length, inl, inr, refl, sym, ap, ◌∙◌, subst, arith}
-use Rattle.std.specs.Prelude.{◌==◌, slice_index_or}
+use Rattle.std.proofs.Common.{◌≡◌, ℕ, suc, Bool, true, false, ◌&&◌, List, [], ◌∷◌, map, length, refl, sym, ap, ◌∙◌, subst}
+use Rattle.std.specs.Prelude.{slice_index_or}
 use Rattle.std.specs.FinMap.{nat_cmp-IsAntisymmetric}
 use Rattle.std.specs.List.{list_all}
 use Rattle.std.specs.Ordering.{nat_cmp, match_ordering}
 use Rattle.std.specs.declared.cmp.Ordering.TheVariants.{Less, Equal, Greater}
-use Rattle.std.proofs.lemmas.Bool.{false≢true}
-use Rattle.std.proofs.lemmas.Bool.Decides.{nat_tests}
-use Rattle.std.proofs.lemmas.Cmp.{nat_cmp_total}
 use Rattle.simplex.specs.FirstFailing.{first_failing}
 use Rattle.simplex.specs.InOrder.{put}
 use Rattle.simplex.specs.Simplex.{has, is_label, is_same}
 use Rattle.simplex.specs.SimplexFault.{set}
-use Rattle.simplex.proofs.FaultLaws.{length-set}
 use Rattle.simplex.proofs.InOrderLaws.{and_left, and_right}
-use Rattle.simplex.proofs.Members.{In, later, cases, at_head, in_order_in, from_in_order, same_in_order, all_at, all_from}
-use Rattle.simplex.proofs.SimplexLaws.{has_at, has_from}
+use Rattle.simplex.proofs.Members.{In, later, at_head, all_at, all_from}
 use Rattle.facet_set.specs.Complex.{verts}
 use Rattle.facet_set.specs.Maps.{is_distinct}
 use Rattle.facet_set.proofs.ComplexLaws.{same_from}
+use Rattle.facet_set.proofs.SetLaws.{in_set}
 use Rattle.constructions.specs.Relabelling.{is_renaming, relabel_tests}
 use Rattle.script_text.specs.declared.condition.Condition.TheVariants as condition
 use Rattle.script_shell.specs.Commands.{is_pair, make_tests, pair_of}
@@ -26,31 +22,7 @@ use Rattle.script_shell.specs.Relabelling.{map_tests}
 use Rattle.script_shell.specs.Saturated.{saturated}
 use Rattle.script_shell.proofs.Listing.{label_small, small_saturated}
 
-false_at : (v : Bool) → v ≡ false → v ≡ true → ⊥
-false_at v h k = false≢true (sym h ∙ k)
-
-not_true : (v : Bool) → not v ≡ true → v ≡ false
-not_true true h = sym h
-not_true false h = refl
-
-agree : (v w : Bool) → (v ≡ true → w ≡ true) → (w ≡ true → v ≡ true) → v ≡ w
-agree true w f g = sym (f refl)
-agree false true f g = g refl
-agree false false f g = refl
-
-equal_at : (a b : ℕ) → (a == b) ≡ true → a ≡ b
-equal_at a b e = grind (arith, nat_tests)
-
-equal_from : (a b : ℕ) → a ≡ b → (a == b) ≡ true
-equal_from a b e = grind (arith, nat_tests)
-
 -- ---- a set has as many members as its list where none of the list stands twice
-in_set : (x : ℕ) (xs : List ℕ) → In x xs → In x (set xs)
-in_set x xs i = in_order_in nat_cmp_total nat_cmp-IsAntisymmetric x xs i
-
-from_set : (x : ℕ) (xs : List ℕ) → In x (set xs) → In x xs
-from_set x xs i = from_in_order nat_cmp_total nat_cmp-IsAntisymmetric x xs i
-
 length_put : (x : ℕ) (ys : List ℕ) → (In x ys → ⊥) → length (put nat_cmp x ys) ≡ suc (length ys)
 length_put x [] f = refl
 length_put x (y ∷ ys) f =
@@ -59,29 +31,6 @@ length_put x (y ∷ ys) f =
       | Equal ↦ λ e. absurd (f (at_head x y ys (nat_cmp-IsAntisymmetric x y e)))
       | Greater ↦ λ e. ap suc (length_put x ys (λ i. f (later i)))
     ] refl
-
-length_new : (x : ℕ) (xs : List ℕ) → has xs x ≡ false → length (set (x ∷ xs)) ≡ suc (length (set xs))
-length_new x xs h = length_put x (set xs) (λ i. false_at (has xs x) h (has_from xs x (from_set x xs i)))
-
-set_old : (x : ℕ) (xs : List ℕ) → In x xs → set (x ∷ xs) ≡ set xs
-set_old x xs i =
-    same_in_order nat_cmp_total nat_cmp-IsAntisymmetric (x ∷ xs) xs (λ y j. elim (cases j) [ inl e ↦ subst (λ z. In z xs) (sym e) i | inr k ↦ k ]) (λ y j. later j)
-
-length_distinct : (xs : List ℕ) → is_distinct xs ≡ true → length (set xs) ≡ length xs
-length_distinct [] h = refl
-length_distinct (x ∷ xs) h = length_new x xs (not_true (has xs x) (and_left _ _ h)) ∙ ap suc (length_distinct xs (and_right (not (has xs x)) _ h))
-
-distinct_length : (xs : List ℕ) → length (set xs) ≡ length xs → is_distinct xs ≡ true
-distinct_length [] h = refl
-distinct_length (x ∷ xs) h =
-    elim (has xs x) as (λ v. has xs x ≡ v → (not v && is_distinct xs) ≡ true) [
-      | true ↦ λ e. let few = length-set xs in let same = ap length (set_old x xs (has_at xs x e)) in absurd (omega arith)
-      | false ↦ λ e. let more = length_new x xs e in distinct_length xs (omega arith)
-    ] refl
-
-pub distinct_test : (xs : List ℕ) → (length (set xs) == length xs) ≡ is_distinct xs
-distinct_test xs =
-    agree _ _ (λ e. distinct_length xs (equal_at (length (set xs)) (length xs) e)) (λ h. equal_from (length (set xs)) (length xs) (length_distinct xs h))
 
 -- ---- the old labels and the new ones
 abbrev pub olds : List (List ℕ) → List ℕ

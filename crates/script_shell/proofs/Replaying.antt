@@ -1,5 +1,5 @@
 -- The transcript of a script is made of lines that begin no part and of the texts of certificates.
-use Rattle.std.proofs.Common.{◌≡◌, ℕ, zero, suc, ◌+◌, ◌-◌, Bool, true, false, not, cond, ◌&&◌, ◌||◌, List, [], ◌∷◌, ◌++◌, map, take, drop, refl, sym, ap, ◌∙◌, subst, Option, Some, None, arith}
+use Rattle.std.proofs.Common.{◌≡◌, ℕ, zero, suc, ◌+◌, ◌-◌, Bool, true, false, not, cond, ◌||◌, List, [], ◌∷◌, ◌++◌, map, take, drop, refl, sym, ap, ◌∙◌, subst, Option, Some, None, arith}
 use mathlib.Core.List.{append_assoc}
 use Rattle.std.proofs.lemmas.List.{append-nil, map-append, length-drop, take_all}
 use Rattle.std.proofs.lemmas.Grind.{flat_map-append}
@@ -11,7 +11,6 @@ use Rattle.script_text.specs.Reading.{command_of}
 use Rattle.script_text.specs.Tokens.{is_blank}
 use Rattle.script_text.specs.declared.command.Command.{Command}
 use Rattle.script_text.specs.declared.command.Command.TheVariants as command
-use Rattle.script_text.specs.declared.command.Maker.{Maker}
 use Rattle.script_text.specs.declared.command.Question.{Question}
 use Rattle.script_text.specs.declared.command.Question.TheVariants as question
 use Rattle.script_text.specs.declared.command.Edit.{Edit}
@@ -26,16 +25,15 @@ use Rattle.face_vectors.specs.Vectors.{alternating, g_vector_of, h_vector_of}
 use Rattle.betti_tables.specs.Ranks.{betti_vector}
 use Rattle.annealer.specs.Walk.{goal, to_goal, walk}
 use Rattle.shell_names.specs.State.{State, Complex, present, entry, undone, redone}
-use Rattle.flip_certificate.specs.Count.{flip_count}
-use Rattle.flip_certificate.specs.Lines.{kind_of, kind_text, lines_of, text_of, Spells}
+use Rattle.flip_certificate.specs.Lines.{lines_of, text_of}
 use Rattle.flip_certificate.specs.declared.certificate.Certificate.{Certificate}
 use Rattle.flip_certificate.proofs.EndsLaws.{no_feed-append, no_feed-decimal}
-use Rattle.replay_report.specs.Report.{parts, is_accepted, refuses_part}
+use Rattle.replay_report.specs.Report.{parts, is_accepted}
 use Rattle.replay_report.specs.Laws.{Piece, line, whole, IsPiece, IsOtherLine, piece_text, certificate_texts}
 use Rattle.replay_report.proofs.JudgingLaws.{valid_accepted}
 use Rattle.replay_report.proofs.TranscriptLaws.{certificates_are}
 use Rattle.flip_certificate.proofs.ReadingLaws.{reads_the_spelled_lem}
-use Rattle.reply_texts.specs.Laws.{IsLine, IsLineWith, is_plain}
+use Rattle.reply_texts.specs.Laws.{IsLine}
 use Rattle.reply_texts.specs.Replies.{facets_reply, ok_reply, refusal_text, undecided_at_reply, undecided_reply}
 use Rattle.reply_texts.proofs.LineLaws.{all_lines}
 use Rattle.verdicts.specs.Sound.{YesIsSound}

@@ -1,15 +1,10 @@
 -- The words of `bench`, and what it writes.
-use Rattle.std.specs.Prelude.{ℕ, ◌+◌, ◌*◌, ◌^◌, Bool, ◌&&◌, List, [], ◌∷◌, ◌++◌, nat_le, nat_lt, nat_eq, Option, Some, None, if◌then◌else◌, codes, decimal}
+use Rattle.std.specs.Prelude.{ℕ, ◌+◌, ◌*◌, ◌^◌, Bool, ◌&&◌, List, [], ◌∷◌, ◌++◌, nat_le, nat_lt, nat_eq, codes, decimal}
 use Rattle.std.specs.List.{filter, flat_map, starts_with}
 use Rattle.simplex.specs.Simplex.{len_limit}
-use Rattle.shell_names.specs.Limits.{weight_limit}
-use Rattle.script_text.specs.Bytes.{is_number, value_onto}
+use Rattle.facet_set.specs.Numbers.{weight_limit}
 use Rattle.replay_report.specs.Report.{lines_of, first_line, replay_text}
 use Rattle.script_shell.specs.Transcript.{transcript}
-
--- the number that a word is, if it is a number of a script
-abbrev pub number_of : List ℕ → Option ℕ
-number_of w = if is_number w then Some (value_onto 0 w) else None
 
 -- the greatest number of flips
 abbrev pub bench_limit : ℕ

@@ -1,6 +1,7 @@
 -- The limits of a shell.
 use Rattle.std.specs.Prelude.{◌≤◌}
-use Rattle.shell_names.specs.Limits.{weight_limit, journal_limit}
+use Rattle.facet_set.specs.Numbers.{weight_limit}
+use Rattle.shell_names.specs.Limits.{journal_limit}
 use Rattle.script_shell.specs.declared.limits.Limits.{Limits}
 
 -- the limits of the program

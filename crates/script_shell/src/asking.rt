@@ -1,8 +1,7 @@
 ghost use Rattle.std.specs.Prelude.{◌≡◌, ◌≤◌, None, is_some, IfOk, IfSome, OnOk, IfErr};
 ghost use Rattle.simplex.specs.FirstFailing.{first_failing};
-ghost use Rattle.facet_set.specs.Numbers.{weight};
+ghost use Rattle.facet_set.specs.Numbers.{weight, weight_limit};
 ghost use Rattle.script_text.specs.declared.command.Question.{Question};
-ghost use Rattle.shell_names.specs.Limits.{weight_limit};
 ghost use Rattle.shell_names.specs.State.{holds, present};
 ghost use Rattle.script_shell.specs.Commands.{asking, asking_tests, answering};
 ghost use Rattle.script_shell.specs.Stops.{StopsAt};
@@ -14,14 +13,14 @@ use crate::parts::not_void;
 use crate::purity::pure;
 use crate::stop::Stop;
 use face_vectors::{euler, f, g, h};
-use facet_set::Facets;
+use facet_set::{Facets, WEIGHT_LIMIT};
 use flip_rules::options;
 use local_parts::{components, is_closed, is_strong};
 use reply_texts::{
     faces_reply, facets_reply, flips_reply, number_reply, numbers_reply, row_reply, yes_or_no,
 };
 use script_text::{Condition, Name, Question};
-use shell_names::{Names, WEIGHT_LIMIT};
+use shell_names::Names;
 use simplex::{Memory, Numbers, Text};
 use std::alloc::Global;
 

@@ -4,9 +4,9 @@ ghost use Rattle.replay_report.specs.Report.{first_line};
 ghost use Rattle.script_shell.specs.Bench.{bench_line, bench_script, bench_text, is_reply_line, is_within, most_facets, reply_lines, three_numbers, two_numbers};
 
 use crate::transcript::transcript;
+use facet_set::WEIGHT_LIMIT;
 use replay_report::{line_len, replay_all};
 use script_text::put_number;
-use shell_names::WEIGHT_LIMIT;
 use simplex::{LEN_LIMIT, Memory, Text};
 use std::alloc::Global;
 

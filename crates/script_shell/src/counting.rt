@@ -5,9 +5,8 @@ ghost use Rattle.betti_tables.specs.Limits.{limit_fault};
 ghost use Rattle.betti_tables.specs.Ranks.{betti_vector};
 ghost use Rattle.betti_tables.specs.declared.betti_fault.BettiFault.TheVariants as fault;
 ghost use Rattle.facet_set.specs.Flips.{options};
-ghost use Rattle.facet_set.specs.Numbers.{degree, f_vector, faces_of_size, size, weight};
+ghost use Rattle.facet_set.specs.Numbers.{degree, f_vector, faces_of_size, size, weight, weight_limit};
 ghost use Rattle.face_vectors.specs.Counts.{numbers, IsWithinLimits};
-ghost use Rattle.shell_names.specs.Limits.{weight_limit};
 
 use betti_tables::{Betti, BettiFault, RankTable};
 use face_lattice::Lattice;

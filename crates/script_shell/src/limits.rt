@@ -1,4 +1,5 @@
-use shell_names::{JOURNAL_LIMIT, WEIGHT_LIMIT};
+use facet_set::WEIGHT_LIMIT;
+use shell_names::JOURNAL_LIMIT;
 
 /// The limits of a shell. They are own.
 #[derive(Clone, Copy, Debug, PartialEq, Eq)]

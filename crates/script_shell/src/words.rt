@@ -1,11 +1,10 @@
-ghost use Rattle.std.specs.Prelude.{◌≡◌, ◌≤◌, true, length, map};
-ghost use Rattle.std.specs.List.{list_all};
+ghost use Rattle.std.specs.Prelude.{◌≡◌, map};
 ghost use Rattle.std.specs.String.{string_bytes};
-ghost use Rattle.script_text.specs.Bytes.{is_digit, is_number, value_onto};
-ghost use Rattle.script_shell.specs.Bench.{number_of};
+ghost use Rattle.script_text.specs.Bytes.{number_of};
 ghost use Rattle.script_shell.specs.Output.{bench_form, form_of, numbers_form, word_form};
 
 use crate::bench::is_within;
+use script_text::number_of;
 
 /// What the words of the command line ask for.
 #[derive(Clone, Copy, Debug, PartialEq, Eq)]
@@ -66,48 +65,4 @@ fn bench_form(d: &[u8], n: &[u8], seed: &[u8]) -> Form
         (Some(d), Some(n), Some(seed)) if is_within(d, n) => Form::Bench { d, n, seed },
         _ => Form::NoForm,
     }
-}
-
-// The number that the word is, if a script may have it.
-fn number_of(word: &[u8]) -> Option<u64>
-    ensures { result ≡ number_of word.now }
-{
-    if is_number(word) {
-        Some(value_of(word))
-    } else {
-        None
-    }
-}
-
-fn is_number(word: &[u8]) -> bool
-    ensures { result ≡ is_number word.now }
-{
-    let Some((first, rest)) = word.split_first() else {
-        return false;
-    };
-    all_digits(word) && rest.len() < 18 && (*first != b'0' || rest.is_empty())
-}
-
-fn all_digits(word: &[u8]) -> bool
-    ensures { result ≡ list_all is_digit word.now }
-{
-    word.iter().all(|byte| is_digit(*byte))
-}
-
-fn is_digit(byte: u8) -> bool
-    ensures { result ≡ is_digit byte }
-{
-    b'0' <= byte && byte <= b'9'
-}
-
-fn value_of(digits: &[u8]) -> u64
-    requires digits { list_all is_digit digits.now ≡ true }
-    requires short { length digits.now ≤ 18 }
-    ensures { result ≡ value_onto 0 digits.now }
-{
-    let mut n = 0;
-    for digit in digits {
-        n = 10 * n + (*digit as u64 - 48);
-    }
-    n
 }

@@ -6,6 +6,7 @@ use Rattle.std.proofs.lemmas.Bool.Decides.{nat_tests}
 use Rattle.std.proofs.Common.{arith}
 use Rattle.std.specs.Cmp.Lexicographic.{bytes_decides}
 use Rattle.simplex.proofs.InOrderLaws.{and_left, and_right, and_both}
+use Rattle.simplex.proofs.Decided.{equal_itself}
 use Rattle.script_text.specs.declared.token.Token.{Token}
 use Rattle.script_text.specs.declared.token.Token.TheVariants.{Word, Number, Assign, Open, Close, Comma}
 use Rattle.script_text.specs.declared.command.Command.{Command}
@@ -28,15 +29,12 @@ use Rattle.script_text.specs.Verbs.{verb_of, verb_word, verbs}
 text_same : (v : List ℕ) → is_text v v ≡ true
 text_same v = (bytes_decides v v).1 refl
 
-number_same : (n : ℕ) → (n == n) ≡ true
-number_same n = grind (arith, nat_tests)
-
 number_of : (m n : ℕ) → (m == n) ≡ true → m ≡ n
 number_of m n h = grind (arith, nat_tests)
 
 token_same : (t : Token) → same_token t t ≡ true
 token_same (Word v) = text_same v
-token_same (Number n) = number_same n
+token_same (Number n) = equal_itself n
 token_same Assign = refl
 token_same Open = refl
 token_same Close = refl

@@ -1,5 +1,5 @@
 -- The kinds of bytes.
-use Rattle.std.specs.Prelude.{ℕ, ◌+◌, ◌-◌, ◌*◌, Bool, false, not, ◌&&◌, ◌||◌, List, [], ◌∷◌, length, nat_le, nat_lt, ◌==◌}
+use Rattle.std.specs.Prelude.{ℕ, ◌+◌, ◌-◌, ◌*◌, Bool, false, not, ◌&&◌, ◌||◌, List, [], ◌∷◌, length, nat_le, nat_lt, ◌==◌, Option, Some, None, if◌then◌else◌}
 use Rattle.std.specs.List.{list_all}
 
 abbrev pub is_between : ℕ → ℕ → ℕ → Bool
@@ -35,3 +35,7 @@ is_number (c ∷ cs) = list_all is_digit (c ∷ cs) && nat_lt (length cs) 18 && 
 abbrev pub value_onto : ℕ → List ℕ → ℕ
 value_onto n [] = n
 value_onto n (c ∷ cs) = value_onto (10 * n + (c - 48)) cs
+
+-- the number that the run is, if it is one
+abbrev pub number_of : List ℕ → Option ℕ
+number_of w = if is_number w then Some (value_onto 0 w) else None

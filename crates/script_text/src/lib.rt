@@ -10,8 +10,6 @@ mod name;
 mod parts;
 mod printing;
 mod reading;
-#[cfg(test)]
-mod tests;
 mod token;
 mod verb;
 mod whole;
@@ -22,3 +20,4 @@ pub use laws::{reads_the_spelled, spelled_apart};
 pub use name::{NAME_LIMIT, Name};
 pub use printing::{Printed, put_facets, put_list, put_number, put_simplex};
 pub use reading::{is_blank, is_in_comment, read_command};
+pub use token::number_of;

@@ -1,7 +1,7 @@
 ghost use Rattle.std.specs.Prelude.{◌≡◌, ◌≤◌, ◌<◌, [], ◌∷◌, IfSome, IsNone, length, take, drop, Some, None, true};
 ghost use Rattle.std.specs.List.{list_all};
 ghost use Rattle.script_text.specs.declared.token.Token.{Token};
-ghost use Rattle.script_text.specs.Bytes.{is_digit, is_number, value_onto};
+ghost use Rattle.script_text.specs.Bytes.{is_digit, is_number, number_of, value_onto};
 ghost use Rattle.script_text.specs.Parts.{before, NoneBegins};
 ghost use Rattle.script_text.specs.Tokens.{sign_of, token_of, tokens, goes_on, plain, pieces, is_at_piece};
 
@@ -44,6 +44,17 @@ fn value_of(digits: &[u8]) -> u64
         n = 10 * n + (*digit as u64 - 48);
     }
     n
+}
+
+/// The number that the word is: 0, or at most 18 digits of which the first is not 0.
+pub fn number_of(word: &[u8]) -> Option<u64>
+    ensures { result ≡ number_of word.now }
+{
+    if is_number(word) {
+        Some(value_of(word))
+    } else {
+        None
+    }
 }
 
 fn sign_of(piece: &[u8]) -> Option<Token>

@@ -1,19 +1,16 @@
 -- Names, their places and their sums.
-use Rattle.std.proofs.Common.{◌≡◌, ◌≤◌, ℕ, suc, ◌+◌, ◌-◌, ◌^◌, min, ◌||◌, Bool, true, false, cond, List, [], ◌∷◌, ◌++◌, get_or, Option, Some, None, refl, sym, ap, ◌∙◌, subst, arith}
+use Rattle.std.proofs.Common.{◌≡◌, ◌≤◌, ℕ, suc, ◌+◌, ◌-◌, ◌^◌, min, Bool, true, false, cond, List, [], ◌∷◌, ◌++◌, get_or, Option, Some, None, refl, sym, ap, ◌∙◌, subst, arith}
 use Rattle.std.proofs.Math.ListN.{set}
 use Rattle.std.specs.Option.{MatchOption}
 use Rattle.std.specs.List.{sum_by, position_from}
 use Rattle.std.proofs.lemmas.List.Sums.{sum_by-cons}
 use Rattle.std.proofs.lemmas.Slice.Eq.{bytes_eq-Decides}
 use Rattle.script_text.specs.Tokens.{is_text}
-use Rattle.facet_set.specs.Numbers.{weight}
-use Rattle.shell_names.specs.Limits.{weight_limit, journal_limit}
+use Rattle.facet_set.specs.Numbers.{weight, weight_limit}
+use Rattle.simplex.proofs.Decided.{neither}
+use Rattle.shell_names.specs.Limits.{journal_limit}
 use Rattle.shell_names.specs.State.{Complex, Named, State, named, assign, edited, undone, redone, holds, entry, present, put_entry, total_weight, journal, journal_of}
 use Rattle.shell_names.specs.Sums.{AreSums, StandsAt}
-
-neither : (a b : Bool) → (a || b) ≡ false → (a ≡ false) × (b ≡ false)
-neither false b h = (refl, h)
-neither true b h = cc
 
 pub text_is : (x y : List ℕ) → is_text x y ≡ true → x ≡ y
 text_is x y h = (bytes_eq-Decides x y).0 h

@@ -1,10 +1,6 @@
 -- The limits of what a shell holds. They are own.
 use Rattle.std.specs.Prelude.{ℕ}
 
--- the greatest sum of the weights of the present complexes
-abbrev pub weight_limit : ℕ
-weight_limit = 8388608
-
 -- the greatest sum of the sizes of all changes
 abbrev pub journal_limit : ℕ
 journal_limit = 4194304

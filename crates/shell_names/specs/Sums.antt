@@ -1,6 +1,7 @@
 -- How the names are kept.
 use Rattle.std.specs.Prelude.{◌≡◌, ℕ, ◌≤◌, ◌<◌, true, List, length, slice_index_or, slice_set}
-use Rattle.shell_names.specs.Limits.{weight_limit, journal_limit}
+use Rattle.facet_set.specs.Numbers.{weight_limit}
+use Rattle.shell_names.specs.Limits.{journal_limit}
 use Rattle.shell_names.specs.State.{Named, State, holds, entry, put_entry, total_weight, journal}
 
 -- the two sums of the names, which are within the limits

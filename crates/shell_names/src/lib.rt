@@ -6,8 +6,5 @@ mod limits;
 mod names;
 mod trail;
 
-pub use limits::{JOURNAL_LIMIT, WEIGHT_LIMIT};
+pub use limits::JOURNAL_LIMIT;
 pub use names::Names;
-
-#[cfg(test)]
-mod tests;

@@ -31,8 +31,8 @@ impl Model for Names {
 
 impl Names {
     ghost use Rattle.std.specs.Prelude.{◌≡◌, ◌≤◌, ◌<◌, ◌^◌, ◌-◌, ◌==◌, min, [], length, nat_lt, is_some, IsTrue, IsSome, IfSome, IfOk, OnOk, OnErr, MatchOption, true, false, ◌+◌};
-    ghost use Rattle.facet_set.specs.Numbers.{weight};
-    ghost use Rattle.shell_names.specs.Limits.{weight_limit, journal_limit};
+    ghost use Rattle.facet_set.specs.Numbers.{weight, weight_limit};
+    ghost use Rattle.shell_names.specs.Limits.{journal_limit};
     ghost use Rattle.shell_names.specs.State.{holds, entry, present, put_entry, assign, edited, undone, redone, journal_of, total_weight, journal};
 
     /// No names. It takes no memory.

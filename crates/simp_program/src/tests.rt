@@ -1,9 +1,13 @@
 //! Runs of the shell over ends in memory, and commands to it. They stand here so that the shell's own crate is proved once.
+ghost use Rattle.std.specs.Prelude.{◌≤◌};
+ghost use Rattle.script_shell.specs.Limits.{IsWithinStandard};
+
 use run_ends::{MemSink, MemSource, SureSink, SureSource};
 use script_shell::{Exit, Limits, Reply, Shell, run_program, run_surely};
 use script_text::{Command, Condition, Name, read_command};
 use simplex::{Lists, Memory, Numbers};
 use std::alloc::{AllocError, Global};
+use std::process::Abort;
 use std::test::Fail;
 
 fn words_of(alloc: Global, text: &str) -> Result<Vec<String>, AllocError> {
@@ -14,10 +18,25 @@ fn words_of(alloc: Global, text: &str) -> Result<Vec<String>, AllocError> {
     Ok(words)
 }
 
+// The exit of a run over ends that cannot fail, and whether it wrote just this text.
+fn ran(
+    alloc: Global,
+    words: &str,
+    input: &[u8],
+    piece: usize,
+    text: &[u8],
+) -> Result<(Exit, bool), Fail>
+    requires { 1 ≤ piece }
+{
+    let words = words_of(alloc, words)?;
+    let mut source = SureSource::new(alloc, input, piece)?;
+    let mut sink = SureSink::new(alloc, 7);
+    let ended = run_surely(alloc, words.as_slice(), &mut source, &mut sink);
+    Ok((ended, sink.written() == text))
+}
+
 #[test]
 fn scripts_have_their_transcripts(rt: HostRuntime) -> Result<(), Fail> {
-    let alloc = rt.alloc();
-    let words = words_of(alloc, "run")?;
     for (script, lines, exit) in [
         ("", "", Exit::Done),
         ("# only ; a comment", "", Exit::Done),
@@ -53,19 +72,16 @@ fn scripts_have_their_transcripts(rt: HostRuntime) -> Result<(), Fail> {
             Exit::Refused,
         ),
     ] {
-        let mut source = SureSource::new(alloc, script.as_bytes(), 7)?;
-        let mut sink = SureSink::new(alloc, 7);
-        let ended = run_program(alloc, words.as_slice(), &mut source, &mut sink);
-        assert_eq!(rt; ended, exit, "at {script}");
-        assert_eq!(rt; sink.written(), lines.as_bytes(), "at {script}");
+        let ended = ran(rt.alloc(), "run", script.as_bytes(), 7, lines.as_bytes())?;
+        assert_eq!(rt; ended, (exit, true), "at {script}");
     }
     Ok(())
 }
 
 #[test]
 fn words_of_no_form_write_the_usage(rt: HostRuntime) -> Result<(), Fail> {
-    let alloc = rt.alloc();
-    for text in [
+    let usage = b"usage: simp run | simp replay | simp bench D N SEED\n";
+    for words in [
         "",
         "go",
         "run x",
@@ -74,44 +90,39 @@ fn words_of_no_form_write_the_usage(rt: HostRuntime) -> Result<(), Fail> {
         "bench 3 1",
         "bench 3 01 1",
     ] {
-        let words = words_of(alloc, text)?;
-        let mut source = SureSource::new(alloc, b"show [];", 7)?;
-        let mut sink = SureSink::new(alloc, 7);
-        let ended = run_surely(alloc, words.as_slice(), &mut source, &mut sink);
-        assert_eq!(rt; ended, Exit::Usage);
-        assert_eq!(rt; ended.code(), 2);
-        assert_eq!(rt;
-            sink.written(),
-            b"usage: simp run | simp replay | simp bench D N SEED\n".as_slice()
-        );
+        let ended = ran(rt.alloc(), words, b"show [];", 7, usage.as_slice())?;
+        assert_eq!(rt; ended, (Exit::Usage, true), "at {words}");
     }
+    assert_eq!(rt; Exit::Usage.code(), 2);
     Ok(())
 }
 
 #[test]
 fn replay_of_empty_input_checks_nothing(rt: HostRuntime) -> Result<(), Fail> {
-    let alloc = rt.alloc();
-    let words = words_of(alloc, "replay")?;
-    let mut source = SureSource::new(alloc, b"", 7)?;
-    let mut sink = SureSink::new(alloc, 7);
-    let ended = run_surely(alloc, words.as_slice(), &mut source, &mut sink);
-    assert_eq!(rt; ended, Exit::Done);
-    assert_eq!(rt; sink.written(), b"checked 0 accepted 0\n".as_slice());
+    let ended = ran(rt.alloc(), "replay", b"", 7, b"checked 0 accepted 0\n")?;
+    assert_eq!(rt; ended, (Exit::Done, true));
+    Ok(())
+}
+
+const TWO_SHOWS: &[u8] = b"show [[1]];show [[2]];";
+
+#[test]
+fn a_failing_source_has_its_exit(rt: HostRuntime) -> Result<(), Fail> {
+    let words = words_of(rt.alloc(), "run")?;
+    let mut source = MemSource::new(rt.alloc(), TWO_SHOWS, 11, &[1])?;
+    let mut sink = SureSink::new(rt.alloc(), 7);
+    let ended = run_program(rt.alloc(), words.as_slice(), &mut source, &mut sink);
+    assert_eq!(rt; ended, Exit::ReadFault);
+    assert!(rt; b"[1] facets [[1]]\n".starts_with(sink.written()));
     Ok(())
 }
 
 #[test]
-fn a_failing_end_has_its_exit(rt: HostRuntime) -> Result<(), Fail> {
-    let alloc = rt.alloc();
-    let words = words_of(alloc, "run")?;
-    let mut source = MemSource::new(alloc, b"show [[1]];show [[2]];", 11, &[1])?;
-    let mut sink = SureSink::new(alloc, 7);
-    let ended = run_program(alloc, words.as_slice(), &mut source, &mut sink);
-    assert_eq!(rt; ended, Exit::ReadFault);
-    assert!(rt; b"[1] facets [[1]]\n".starts_with(sink.written()));
-    let mut source = SureSource::new(alloc, b"show [[1]];show [[2]];", 11)?;
-    let mut sink = MemSink::new(alloc, 7, &[0])?;
-    let ended = run_program(alloc, words.as_slice(), &mut source, &mut sink);
+fn a_failing_sink_has_its_exit(rt: HostRuntime) -> Result<(), Fail> {
+    let words = words_of(rt.alloc(), "run")?;
+    let mut source = SureSource::new(rt.alloc(), TWO_SHOWS, 11)?;
+    let mut sink = MemSink::new(rt.alloc(), 7, &[0])?;
+    let ended = run_program(rt.alloc(), words.as_slice(), &mut source, &mut sink);
     assert_eq!(rt; ended, Exit::WriteFault);
     assert_eq!(rt; sink.written(), b"".as_slice());
     Ok(())
@@ -119,15 +130,10 @@ fn a_failing_end_has_its_exit(rt: HostRuntime) -> Result<(), Fail> {
 
 #[test]
 fn the_limit_of_the_input_is_exact(rt: HostRuntime) -> Result<(), Fail> {
-    let alloc = rt.alloc();
-    let words = words_of(alloc, "run")?;
     for (count, exit) in [(16_777_216, Exit::Done), (16_777_217, Exit::TooLong)] {
-        let spaces = spaces(alloc, count)?;
-        let mut source = SureSource::new(alloc, &spaces, 1_000_000)?;
-        let mut sink = SureSink::new(alloc, 7);
-        let ended = run_program(alloc, words.as_slice(), &mut source, &mut sink);
-        assert_eq!(rt; ended, exit);
-        assert_eq!(rt; sink.written(), b"".as_slice());
+        let spaces = spaces(rt.alloc(), count)?;
+        let ended = ran(rt.alloc(), "run", &spaces, 1_000_000, b"")?;
+        assert_eq!(rt; ended, (exit, true));
     }
     Ok(())
 }
@@ -177,6 +183,32 @@ fn answer(alloc: Global, shell: &mut Shell, command: &str) -> Result<Reply, Fail
     Ok(shell.perform(&command)?)
 }
 
+// Gives the commands to the shell, one after another, and asks for these replies.
+fn go_on(
+    rt: &impl Abort,
+    alloc: Global,
+    shell: &mut Shell,
+    dialogue: &[(&str, &str)],
+) -> Result<(), Fail> {
+    for (command, reply) in dialogue {
+        let answered = answer(alloc, shell, command)?;
+        assert_eq!(rt; answered.text(), reply.as_bytes(), "at {command}");
+    }
+    Ok(())
+}
+
+// The same with a shell of its own.
+fn answers(
+    rt: &impl Abort,
+    alloc: Global,
+    limits: Limits,
+    dialogue: &[(&str, &str)],
+) -> Result<(), Fail>
+    requires { IsWithinStandard limits }
+{
+    go_on(rt, alloc, &mut Shell::new(alloc, limits), dialogue)
+}
+
 fn name(text: &str) -> Result<Name, Fail> {
     Ok(Name::of(text.as_bytes()).ok_or("no name")?)
 }
@@ -189,9 +221,7 @@ const SMALL: Limits = Limits {
 
 #[test]
 fn names_and_weights_have_limits(rt: HostRuntime) -> Result<(), Fail> {
-    let alloc = rt.alloc();
-    let mut shell = Shell::new(alloc, SMALL);
-    for (command, reply) in [
+    let dialogue = [
         ("X := [[1,2],[1,3],[2,3]]", "ok 3\n"),
         ("Y := [[1,2]]", "ok 1\n"),
         ("Z := []", "refused names_full\n"),
@@ -199,62 +229,50 @@ fn names_and_weights_have_limits(rt: HostRuntime) -> Result<(), Fail> {
         ("print Y", "facets [[1,2]]\n"),
         ("X := [[1,2],[1,3]]", "ok 2\n"),
         ("Y := [[1,2],[3]]", "ok 2\n"),
-    ] {
-        let answered = answer(alloc, &mut shell, command)?;
-        assert_eq!(rt; answered.text(), reply.as_bytes(), "at {command}");
-    }
-    Ok(())
+    ];
+    answers(&rt, rt.alloc(), SMALL, dialogue.as_slice())
 }
 
 #[test]
 fn an_undo_has_the_limit_of_weights(rt: HostRuntime) -> Result<(), Fail> {
-    let alloc = rt.alloc();
-    let mut shell = Shell::new(alloc, SMALL);
-    for (command, reply) in [
+    let mut shell = Shell::new(rt.alloc(), SMALL);
+    let dialogue = [
         ("X := bdsimplex 2", "ok 3\n"),
         ("drop X [1,2]", "ok 2\n"),
         ("Y := [[1,2],[3]]", "ok 2\n"),
         ("undo X", "refused size_limit\n"),
-    ] {
-        let answered = answer(alloc, &mut shell, command)?;
-        assert_eq!(rt; answered.text(), reply.as_bytes(), "at {command}");
-    }
-    assert_eq!(rt; shell.past_len(&name("X")?), Some(1));
-    assert_eq!(rt; shell.future_len(&name("X")?), Some(0));
-    assert_eq!(rt; shell.past_len(&name("Z")?), None);
-    let path = shell.present(&name("X")?)?.ok_or("not held")?;
-    assert_eq!(rt; path.as_slice().len(), 2);
+    ];
+    go_on(&rt, rt.alloc(), &mut shell, dialogue.as_slice())?;
+    let (x, z) = (name("X")?, name("Z")?);
+    let lens = (shell.past_len(&x), shell.future_len(&x), shell.past_len(&z));
+    assert_eq!(rt; lens, (Some(1), Some(0), None));
+    assert_eq!(rt; facet_count(&shell, &x)?, Some(2));
     Ok(())
+}
+
+fn facet_count(shell: &Shell, name: &Name) -> Result<Option<usize>, Memory> {
+    Ok(shell.present(name)?.map(|c| c.as_slice().len()))
 }
 
 #[test]
 fn the_future_that_an_edit_empties_does_not_count(rt: HostRuntime) -> Result<(), Fail> {
-    let alloc = rt.alloc();
-    let mut shell = Shell::new(
-        alloc,
-        Limits {
-            weight: 4096,
-            ..SMALL
-        },
-    );
-    for (command, reply) in [
+    let limits = Limits {
+        weight: 4096,
+        ..SMALL
+    };
+    let dialogue = [
         ("S := [[1,2,3],[1,2,4],[1,3,4],[2,3,4]]", "ok 4\n"),
         ("flip S [1,2,3] [9]", "ok 6\n"),
         ("flip S [1,2,9] [10]", "refused journal_full\n"),
         ("undo S", "ok 4\n"),
         ("flip S [1,2,3] [10]", "ok 6\n"),
-    ] {
-        let answered = answer(alloc, &mut shell, command)?;
-        assert_eq!(rt; answered.text(), reply.as_bytes(), "at {command}");
-    }
-    Ok(())
+    ];
+    answers(&rt, rt.alloc(), limits, dialogue.as_slice())
 }
 
 #[test]
 fn a_copy_asks_for_its_source_and_then_for_room(rt: HostRuntime) -> Result<(), Fail> {
-    let alloc = rt.alloc();
-    let mut shell = Shell::new(alloc, SMALL);
-    for (command, reply) in [
+    let dialogue = [
         ("X := copy X", "refused no_name\n"),
         ("X := [[1,2],[1,3]]", "ok 2\n"),
         ("Y := copy X", "ok 2\n"),
@@ -264,18 +282,13 @@ fn a_copy_asks_for_its_source_and_then_for_room(rt: HostRuntime) -> Result<(), F
         ("print Y", "facets [[1,2],[1,3]]\n"),
         ("Y := copy Y", "ok 2\n"),
         ("undo Y", "refused no_past\n"),
-    ] {
-        let answered = answer(alloc, &mut shell, command)?;
-        assert_eq!(rt; answered.text(), reply.as_bytes(), "at {command}");
-    }
-    Ok(())
+    ];
+    answers(&rt, rt.alloc(), SMALL, dialogue.as_slice())
 }
 
 #[test]
 fn the_numbers_of_the_torus(rt: HostRuntime) -> Result<(), Fail> {
-    let alloc = rt.alloc();
-    let mut shell = Shell::new(alloc, Limits::STANDARD);
-    for (command, reply) in [
+    let dialogue = [
         (
             "T := [[1,2,4],[1,2,6],[1,3,4],[1,3,7],[1,5,6],[1,5,7],[2,3,5],[2,3,7],[2,4,5],[2,6,7],[3,4,6],[3,5,6],[4,5,7],[4,6,7]]",
             "ok 14\n",
@@ -287,18 +300,13 @@ fn the_numbers_of_the_torus(rt: HostRuntime) -> Result<(), Fail> {
         ("faces T 0", "faces [[1],[2],[3],[4],[5],[6],[7]]\n"),
         ("degree T [7,4]", "degree 2\n"),
         ("degree T [1,2,3]", "refused not_face\n"),
-    ] {
-        let answered = answer(alloc, &mut shell, command)?;
-        assert_eq!(rt; answered.text(), reply.as_bytes(), "at {command}");
-    }
-    Ok(())
+    ];
+    answers(&rt, rt.alloc(), Limits::STANDARD, dialogue.as_slice())
 }
 
 #[test]
 fn betti_numbers_and_what_comes_before_a_construction(rt: HostRuntime) -> Result<(), Fail> {
-    let alloc = rt.alloc();
-    let mut shell = Shell::new(alloc, Limits::STANDARD);
-    for (command, reply) in [
+    let dialogue = [
         ("C := [[1,2],[1,3],[2,3]]", "ok 3\n"),
         ("betti C", "betti [1,1]\n"),
         ("V := []", "ok 0\n"),
@@ -320,18 +328,13 @@ fn betti_numbers_and_what_comes_before_a_construction(rt: HostRuntime) -> Result
             "S := relabel C [[4294967297,8],[2,0],[3,7]]",
             "refused not_map\n",
         ),
-    ] {
-        let answered = answer(alloc, &mut shell, command)?;
-        assert_eq!(rt; answered.text(), reply.as_bytes(), "at {command}");
-    }
-    Ok(())
+    ];
+    answers(&rt, rt.alloc(), Limits::STANDARD, dialogue.as_slice())
 }
 
 #[test]
 fn options_and_walks_of_a_disk(rt: HostRuntime) -> Result<(), Fail> {
-    let alloc = rt.alloc();
-    let mut shell = Shell::new(alloc, Limits::STANDARD);
-    for (command, reply) in [
+    let dialogue = [
         ("D := [[1,2,4],[1,3,4],[2,3,4]]", "ok 3\n"),
         ("options D", "options [3,0,1]\n"),
         ("options D 2", "options [[[4],[1,2,3]]]\n"),
@@ -341,27 +344,19 @@ fn options_and_walks_of_a_disk(rt: HostRuntime) -> Result<(), Fail> {
         ("undo D", "ok 1\n"),
         ("undo D", "ok 3\n"),
         ("reduce D 524287 1", "refused budget\n"),
-    ] {
-        let answered = answer(alloc, &mut shell, command)?;
-        assert_eq!(rt; answered.text(), reply.as_bytes(), "at {command}");
-    }
-    Ok(())
+    ];
+    answers(&rt, rt.alloc(), Limits::STANDARD, dialogue.as_slice())
 }
 
 #[test]
 fn a_verdict_asks_for_its_names(rt: HostRuntime) -> Result<(), Fail> {
-    let alloc = rt.alloc();
-    let mut shell = Shell::new(alloc, Limits::STANDARD);
-    for (command, reply) in [
+    let dialogue = [
         ("C := bdsimplex 2", "ok 3\n"),
         ("sphere Q 5 1", "refused no_name\n"),
         ("manifold Q 5 1", "refused no_name\n"),
         ("equivalent Q C 5 1", "refused no_name\n"),
         ("equivalent C Q 5 1", "refused no_name\n"),
         ("print C", "facets [[1,2],[1,3],[2,3]]\n"),
-    ] {
-        let answered = answer(alloc, &mut shell, command)?;
-        assert_eq!(rt; answered.text(), reply.as_bytes(), "at {command}");
-    }
-    Ok(())
+    ];
+    answers(&rt, rt.alloc(), Limits::STANDARD, dialogue.as_slice())
 }

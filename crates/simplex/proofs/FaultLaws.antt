@@ -26,24 +26,21 @@ use Rattle.simplex.specs.Cells.{IsFilled}
 use Rattle.simplex.proofs.InOrderLaws.{and_left, and_right, and_both, is_increasing-in_order}
 use Rattle.simplex.proofs.Members.{all_at, all_from, in_order_in, from_in_order, same_sets, contains_in, in_contains}
 use Rattle.simplex.proofs.Filled.{simplex_from}
+use Rattle.simplex.proofs.Decided.{neither}
 
 split : {E : Type 0} (a b : Bool) (t f : E) (r : Option E) → cond a (cond (not b) r (Some t)) (Some f) ≡ None → (a ≡ true) × (b ≡ false) × (r ≡ None)
 split true false t f r h = (refl, refl, h)
 split true true t f r h = cc
 split false b t f r h = cc
 
-both_false : (a b : Bool) → (a || b) ≡ false → (a ≡ false) × (b ≡ false)
-both_false true b h = cc
-both_false false b h = (refl, h)
-
 weaker : {X : Type 0} (P Q : X → Type 0) → ((x : X) → P x → Q x) → (xs : List X) → AllByRecursion P xs → AllByRecursion Q xs
 weaker P Q f [] h = tt
 weaker P Q f (x ∷ xs) h = (f x h.0, weaker P Q f xs h.1)
 
 pushed : (seen : List ℕ) (x y : ℕ) → has (seen ++ x ∷ []) y ≡ false → (has seen y ≡ false) × (eqb x y ≡ false)
-pushed [] x y h = let e : (y == x) ≡ false = (both_false (y == x) false h).0 in (refl, grind (arith, nat_tests))
+pushed [] x y h = let e : (y == x) ≡ false = (neither (y == x) false h).0 in (refl, grind (arith, nat_tests))
 pushed (z ∷ seen) x y h =
-    let a = both_false (y == z) (has (seen ++ x ∷ []) y) h in
+    let a = neither (y == z) (has (seen ++ x ∷ []) y) h in
     let r = pushed seen x y a.1 in
     (ap (λ v. v || has seen y) a.0 ∙ r.0, r.1)
 
@@ -139,7 +136,7 @@ unseen_more seen (y ∷ xs) x h k = (one seen h.0 k.0, unseen_more seen xs x h.1
   where
     one : (seen : List ℕ) → has seen y ≡ false → eqb x y ≡ false → has (seen ++ x ∷ []) y ≡ false
     one [] h k = let e : (y == x) ≡ false = grind (arith, nat_tests) in ap (λ v. v || false) e
-    one (z ∷ seen) h k = let a = both_false (y == z) (has seen y) h in ap (λ v. v || has (seen ++ x ∷ []) y) a.0 ∙ one seen a.1 k
+    one (z ∷ seen) h k = let a = neither (y == z) (has seen y) h in ap (λ v. v || has (seen ++ x ∷ []) y) a.0 ∙ one seen a.1 k
 
 clean_from : (at : ℕ) (seen xs : List ℕ) → AllByRecursion (λ a. IsTrue (is_label a)) xs → IsDistinct eqb xs → AllByRecursion (λ y. has seen y ≡ false) xs → first_failing (place_tests at seen xs) ≡ None
 unfolding IsDistinct

@@ -1,7 +1,9 @@
+pub mod Decided
 pub mod FaultLaws
 pub mod Filled
 pub mod InOrderLaws
 pub mod Members
+pub mod Ranges
 pub mod SimplexLaws
 pub mod SubsetLaws
 pub mod UnionLaws

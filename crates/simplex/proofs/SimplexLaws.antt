@@ -12,6 +12,7 @@ use Rattle.simplex.specs.InOrder.{is_member, is_increasing}
 use Rattle.simplex.specs.Simplex.{has, is_within, is_disjoint, union, without}
 use Rattle.simplex.proofs.Members.{In, first, later, cases, none, all_at, all_from, in_filter, from_filter, in_left, in_right, in_either, is_member_from, is_member_at, in_order_in, from_in_order}
 use Rattle.simplex.proofs.InOrderLaws.{and_left, and_right, and_both, same_members, is_member-in_order, is_increasing-in_order}
+use Rattle.simplex.proofs.Decided.{agree}
 
 tied : (a b : ℕ) → (a == b) ≡ eq_by_cmp nat_cmp a b
 tied a b = grind (arith, nat_tests)
@@ -101,11 +102,6 @@ within_itself s = within_from s s (λ a h. h)
 
 pub within_trans : (s t u : List ℕ) → is_within s t ≡ true → is_within t u ≡ true → is_within s u ≡ true
 within_trans s t u h k = within_from s u (λ a e. within_at t u a k (within_at s t a h e))
-
-agree : (v w : Bool) → (v ≡ true → w ≡ true) → (w ≡ true → v ≡ true) → v ≡ w
-agree true w f g = sym (f refl)
-agree false true f g = g refl
-agree false false f g = refl
 
 -- two sets that lie in one another are one
 pub same_labels : (s t : List ℕ) → is_increasing nat_cmp s ≡ true → is_increasing nat_cmp t ≡ true → is_within s t ≡ true → is_within t s ≡ true → s ≡ t

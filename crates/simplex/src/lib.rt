@@ -8,8 +8,6 @@ mod memory;
 mod simplex;
 mod simplex_fault;
 mod steps;
-#[cfg(test)]
-mod tests;
 
 pub use flip::Flip;
 pub use items::{Flips, Items, Labels, Lists, Numbers, Pairs, Simplices, Text};

@@ -1,5 +1,5 @@
 -- A yes of `manifold` is a sound certificate.
-use Rattle.std.proofs.Common.{◌≡◌, ℕ, zero, suc, ◌+◌, ◌<◌, Bool, true, false, not, cond, List, [], ◌∷◌, ◌++◌, map, length, take, drop, get_or, refl, sym, ap, ◌∙◌, subst, inl, inr, arith, Option, Some, None, add-one}
+use Rattle.std.proofs.Common.{◌≡◌, ℕ, suc, ◌+◌, ◌<◌, Bool, true, false, not, cond, List, [], ◌∷◌, ◌++◌, map, length, take, drop, get_or, refl, sym, ap, ◌∙◌, subst, inl, inr, arith, Option, Some, None, add-one}
 use Rattle.std.specs.Prelude.{nat_eq}
 use Rattle.std.specs.List.{list_all, find}
 use Rattle.std.specs.Cmp.Lexicographic.{pointwise}
@@ -8,7 +8,7 @@ use Rattle.std.proofs.lemmas.List.{map-append, take_more}
 use Rattle.std.proofs.lemmas.Bool.Decides.{nat_tests}
 use Rattle.simplex.specs.Simplex.{is_label}
 use Rattle.simplex.proofs.InOrderLaws.{and_left, and_both}
-use Rattle.simplex.proofs.Members.{In, first, later, cases, none, all_from, all_at, from_map}
+use Rattle.simplex.proofs.Members.{In, cases, none, all_from, all_at, from_map}
 use Rattle.facet_set.specs.Complex.{verts}
 use Rattle.facet_set.proofs.VertexLaws.{verts_labels}
 use Rattle.flip_certificate.specs.Lines.{is_start, is_flip}
@@ -105,9 +105,3 @@ pub blocks_more : (f : ℕ → Block) (vs : List ℕ) (i v : ℕ) (b : Block) (b
 blocks_more f vs i v b bs l e g h =
     let t = take_more vs i v l in
     ap (λ x. x ++ b ∷ []) h ∙ ap (λ x. map f (take i vs) ++ x ∷ []) g ∙ sym (map-append f (take i vs) (v ∷ [])) ∙ ap (map f) (sym (t ∙ ap (λ x. take i vs ++ x ∷ []) (sym e)))
-
--- a vertex at a place is a vertex
-pub in_place : (xs : List ℕ) (i d : ℕ) → i < length xs → In (get_or xs i d) xs
-in_place [] i d h = absurd (omega arith)
-in_place (x ∷ xs) zero d h = first
-in_place (x ∷ xs) (suc i) d h = later (in_place xs i d (omega arith))

@@ -21,6 +21,7 @@ use Rattle.facet_set.proofs.OptionLaws.{from_options, from_filter_map, given}
 use Rattle.facet_set.proofs.VertexLaws.{verts_labels}
 use Rattle.flip_certificate.specs.Lines.{is_flip}
 use Rattle.annealer.specs.Walk.{first_filled, best_options, mixed_options, other_options, pool, chosen, pick, is_shrinking, is_mixing, below}
+use Rattle.annealer.proofs.PickExists.{missing_low}
 
 -- ---- a pick is an option
 
@@ -75,14 +76,6 @@ from_pick c heat w p e = by (chosen (pool c heat).0 w) refl e
         heads m n p g = cc
 
 -- ---- an option is a flip of simplices
-
-missing_low : (n : ℕ) (vs : List ℕ) → n ≤ least_missing n vs
-missing_low n [] = omega arith
-missing_low n (v ∷ vs) = by (n == v) (missing_low (n + 1) vs)
-  where
-    by : (t : Bool) → n + 1 ≤ least_missing (n + 1) vs → n ≤ cond t (least_missing (n + 1) vs) n
-    by true r = omega arith
-    by false r = omega arith
 
 module _ (c : List (List ℕ)) (simple : list_all is_simplex c ≡ true) where
   fresh_labels : list_all is_label (option_to_list (fresh c)) ≡ true

@@ -7,8 +7,8 @@ use Rattle.simplex.specs.FirstFailing.{first_failing}
 use Rattle.simplex.specs.Simplex.{label_limit}
 use Rattle.simplex.proofs.InOrderLaws.{and_left, and_right, and_both}
 use Rattle.facet_set.specs.Complex.{verts}
-use Rattle.facet_set.specs.Numbers.{is_pure, size}
-use Rattle.annealer.specs.Budget.{is_in_budget, most_facets, walk_limit}
+use Rattle.facet_set.specs.Numbers.{is_pure, size, weight_limit}
+use Rattle.annealer.specs.Budget.{is_in_budget, most_facets}
 use Rattle.flip_certificate.specs.Lines.{is_start}
 use Rattle.verdicts.specs.Ready.{IsReady}
 use Rattle.verdicts.specs.Tests.{sphere_tests, equivalent_tests, manifold_tests, links_limit}
@@ -23,7 +23,7 @@ ready_from : (n : ℕ) (c : List (List ℕ)) (budget : ℕ) → is_start c ≡ t
 ready_from n c budget start pure low room = record {
   start = start;
   pure = and_both _ _ pure low;
-  room = labels (and_right (leb (most_facets c budget * 2 ^ size c) walk_limit) _ room);
+  room = labels (and_right (leb (most_facets c budget * 2 ^ size c) weight_limit) _ room);
 }
   where
     labels : leb (length (verts c) + budget) label_limit ≡ true → length (verts c) + budget ≤ label_limit

@@ -12,12 +12,12 @@ use Rattle.simplex.proofs.Members.{In, first, cases, none, all_at, all_from, in_
 use Rattle.simplex.proofs.SimplexLaws.{in_within, within_in, within_itself, within_length, is_increasing-filter}
 use Rattle.facet_set.specs.Complex.{generated, is_complex, is_face, faces, facets_with, verts}
 use Rattle.facet_set.specs.Numbers.{is_pure, size}
-use Rattle.facet_set.proofs.ComplexLaws.{is_set, from_generated, is_complex-generated, is_face-generated, face_at, face_from}
+use Rattle.facet_set.specs.Parts.{link_pieces}
+use Rattle.facet_set.proofs.ComplexLaws.{is_set, from_generated, is_complex-generated, is_face-generated, face_at, face_from, sets_of}
 use Rattle.facet_set.proofs.FlipLaws.{length-without, pure_at, pure_from}
 use Rattle.facet_set.proofs.OptionLaws.{in_verts, from_verts}
 use Rattle.facet_set.proofs.VertexLaws.{verts_labels}
-use Rattle.local_parts.specs.Pieces.{link_pieces}
-use Rattle.local_parts.proofs.AroundLaws.{sets, link_is}
+use Rattle.facet_set.proofs.LinkLaws.{link_is}
 use Rattle.flip_certificate.specs.Lines.{is_start}
 use Rattle.flip_certificate.specs.Valid.{is_pure_from, vertex_link}
 use Rattle.verdicts.specs.Ready.{IsReady}
@@ -47,7 +47,7 @@ module _ (c : List (List ℕ)) (v : ℕ) (start : is_start c ≡ true) (whole : 
   -- the facets of the link come from those of the complex
   from_vertex_link : (t : List ℕ) → In t (vertex_link c v) → (s : List ℕ) × In s c × In v s × (t ≡ minus s (v ∷ []))
   from_vertex_link t j =
-      let q = from_generated t (link_pieces c (v ∷ [])) (subst (λ l. In t l) (sym (link_is c (v ∷ []) (sets c simple))) j) in
+      let q = from_generated t (link_pieces c (v ∷ [])) (subst (λ l. In t l) (sym (link_is c (v ∷ []) (sets_of c simple))) j) in
       let r = from_map (λ s. minus s (v ∷ [])) t (facets_with c (v ∷ [])) q.0 in
       let w = from_filter (is_within (v ∷ [])) r.0 c r.1 in
       (r.0, w.0, within_in (v ∷ []) r.0 v w.1 first, r.2)
@@ -60,7 +60,7 @@ module _ (c : List (List ℕ)) (v : ℕ) (start : is_start c ≡ true) (whole : 
       let piece = in_map (λ s. minus s (v ∷ [])) s.0 (facets_with c (v ∷ [])) (in_filter (is_within (v ∷ [])) s.0 c s.1 w) in
       let face = face_from (link_pieces c (v ∷ [])) (minus s.0 (v ∷ [])) (minus s.0 (v ∷ [])) piece (within_itself (minus s.0 (v ∷ []))) in
       let r = face_at (generated (link_pieces c (v ∷ []))) (minus s.0 (v ∷ [])) (is_face-generated (link_pieces c (v ∷ [])) (minus s.0 (v ∷ [])) pieces_set ∙ face) in
-      (r.0, subst (λ l. In r.0 l) (link_is c (v ∷ []) (sets c simple)) r.1)
+      (r.0, subst (λ l. In r.0 l) (link_is c (v ∷ []) (sets_of c simple)) r.1)
     where
       pieces_set : list_all is_set (link_pieces c (v ∷ [])) ≡ true
       pieces_set = all_from is_set (link_pieces c (v ∷ [])) (λ t j.

@@ -6,8 +6,6 @@ mod laws;
 mod manifolds;
 mod ready;
 mod spheres;
-#[cfg(test)]
-mod tests;
 mod verdict;
 mod verdict_fault;
 mod walks;

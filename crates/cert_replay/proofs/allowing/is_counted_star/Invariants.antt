@@ -3,7 +3,7 @@ use Rattle.std.specs.Prelude.{◌==◌}
 use Rattle.std.specs.List.{list_all}
 use Rattle.facet_set.specs.Complex.{facets_with}
 use Rattle.facet_set.specs.Numbers.{degree}
-use Rattle.cert_replay.specs.Star.{lies_in_join, is_counted_star}
+use Rattle.facet_set.specs.Star.{lies_in_join, is_counted_star}
 use Rattle.cert_replay.proofs.allowing.is_counted_star.Given as goal
 
 -- the test on what is left, with the count so far, is the test on all

@@ -1,11 +1,8 @@
-use Rattle.std.proofs.Common.{◌≡◌, Option, Some, None, arith}
+use Rattle.std.proofs.Common.{arith}
 use Rattle.std.specs.Option.{IsSome}
-use Rattle.cert_replay.proofs.Counting.{most-union}
+use Rattle.facet_set.proofs.Counting.{most-union}
+use Rattle.simplex.proofs.Decided.{no_some}
 use Rattle.cert_replay.proofs.balls.union.Goals as goal
-
-no_some : {X : Type 0} (o : Option X) → o ≡ None → IsSome o → ⊥
-no_some None e h = cc
-no_some (Some x) e h = cc
 
 pub unreachable-requires : goal.unreachable-requires
 unreachable-requires c =

@@ -1,6 +1,6 @@
 use Rattle.std.proofs.Common.{◌∙◌, ap, length}
 use Rattle.std.specs.Prelude.{◌==◌}
-use Rattle.cert_replay.proofs.SetLaws.{distinct_test}
+use Rattle.facet_set.proofs.SetLaws.{distinct_test}
 use Rattle.cert_replay.proofs.maps.is_distinct.Goals as goal
 
 pub returns : goal.returns

@@ -1,6 +1,6 @@
 use Rattle.std.proofs.Common.{◌∙◌, ap}
+use Rattle.facet_set.specs.Star.{is_counted_star}
 use Rattle.cert_replay.specs.Corners.{facets_of}
-use Rattle.cert_replay.specs.Star.{is_counted_star}
 use Rattle.cert_replay.proofs.CornerLaws.{counted_at}
 use Rattle.cert_replay.proofs.table.is_star.Goals as goal
 

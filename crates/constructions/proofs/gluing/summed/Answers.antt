@@ -4,10 +4,11 @@ use Rattle.simplex.specs.Simplex.{is_label, label_limit}
 use Rattle.simplex.specs.SimplexFault.{set}
 use Rattle.facet_set.specs.Complex.{generated}
 use Rattle.facet_set.specs.Numbers.{greatest}
+use Rattle.facet_set.specs.Maps.{relabelled}
 use Rattle.facet_set.proofs.GeneratedLaws.{if_ok}
+use Rattle.facet_set.proofs.ComplexLaws.{sets_of}
 use Rattle.constructions.specs.Gluing.{all_but, sum_of}
-use Rattle.constructions.specs.Relabelling.{relabelled, renumbering}
-use Rattle.constructions.proofs.MapLaws.{sets_of}
+use Rattle.constructions.specs.Relabelling.{renumbering}
 use Rattle.constructions.proofs.GluingLaws.{summable, glued_labels, generated_sum}
 use Rattle.constructions.proofs.gluing.summed.Goals as goal
 

@@ -1,4 +1,4 @@
-use Rattle.constructions.proofs.SetLaws.{in_item}
+use Rattle.facet_set.proofs.SetLaws.{in_item}
 use Rattle.constructions.proofs.joins.add_unions.Goals as goal
 
 pub union-requires : goal.union-requires

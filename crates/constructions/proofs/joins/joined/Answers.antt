@@ -6,7 +6,7 @@ use Rattle.facet_set.specs.Complex.{generated, verts}
 use Rattle.facet_set.proofs.GeneratedLaws.{if_ok}
 use Rattle.constructions.specs.Joins.{join, moved}
 use Rattle.constructions.specs.Relabelling.{renumbering}
-use Rattle.constructions.proofs.MapLaws.{renumbering_labels}
+use Rattle.constructions.proofs.NumberLaws.{renumbering_labels}
 use Rattle.constructions.proofs.JoinLaws.{unions, fit_labels, fit_size, moved_from, from_moved, pair_fits, generated_join}
 use Rattle.constructions.proofs.joins.joined.Goals as goal
 

@@ -1,4 +1,4 @@
-use Rattle.constructions.proofs.SetLaws.{in_item}
+use Rattle.facet_set.proofs.SetLaws.{in_item}
 use Rattle.constructions.proofs.joins.unions.Goals as goal
 
 pub add_unions-requires : goal.add_unions-requires

@@ -1,6 +1,6 @@
 use Rattle.std.proofs.Common.{◌∙◌, ap, length}
 use Rattle.std.specs.Prelude.{◌==◌}
-use Rattle.constructions.proofs.SetLaws.{distinct_test}
+use Rattle.facet_set.proofs.SetLaws.{distinct_test}
 use Rattle.constructions.proofs.relabelling.is_distinct.Goals as goal
 
 pub returns : goal.returns

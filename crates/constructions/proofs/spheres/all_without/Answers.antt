@@ -1,5 +1,5 @@
 use Rattle.std.proofs.Common.{get_or}
-use Rattle.constructions.proofs.SetLaws.{in_place}
+use Rattle.facet_set.proofs.SetLaws.{in_place}
 use Rattle.constructions.proofs.spheres.all_without.Goals as goal
 
 pub without-requires : goal.without-requires

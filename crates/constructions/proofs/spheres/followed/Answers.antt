@@ -1,7 +1,8 @@
 use Rattle.std.proofs.Common.{◌≤◌, ◌∷◌, [], ◌++◌, length, refl, sym, ap, ◌∙◌, subst, arith, List, ℕ}
 use Rattle.simplex.specs.Simplex.{union}
 use Rattle.simplex.proofs.Filled.{short_of}
-use Rattle.constructions.proofs.SetLaws.{false_at, union_end}
+use Rattle.simplex.proofs.Decided.{false_at}
+use Rattle.facet_set.proofs.SetLaws.{union_end}
 use Rattle.constructions.proofs.spheres.followed.Goals as goal
 
 pub unreachable-requires : goal.unreachable-requires

@@ -1,4 +1,4 @@
-use Rattle.constructions.proofs.SetLaws.{in_item}
+use Rattle.facet_set.proofs.SetLaws.{in_item}
 use Rattle.constructions.proofs.spheres.with_either.Goals as goal
 
 pub followed-requires : goal.followed-requires

@@ -1,7 +1,7 @@
 use Rattle.std.proofs.Common.{◌≡◌, ◌∙◌, ap, sym, subst, None, List, ℕ}
 use Rattle.simplex.specs.SimplexFault.{set, simplex_fault}
 use Rattle.simplex.specs.Simplex.{without}
-use Rattle.constructions.proofs.SetLaws.{faultless, simplex_again}
+use Rattle.facet_set.proofs.SetLaws.{faultless, simplex_again}
 use Rattle.constructions.proofs.spheres.without.Goals as goal
 
 pub simplex_of-requires : goal.simplex_of-requires

@@ -2,7 +2,7 @@ use Rattle.std.proofs.Common.{◌≡◌, ◌+◌, ◌++◌, ◌∷◌, [], take,
 use Rattle.std.proofs.lemmas.List.{take_more}
 use Rattle.indexmap.specs.IndexMap.{get}
 use Rattle.face_lattice.specs.Cells.{same, kept_at, after_facet}
-use Rattle.face_lattice.proofs.CellLaws.{few_at, kept_more}
+use Rattle.face_lattice.proofs.CellLaws.{few_at, cells_more}
 use Rattle.face_lattice.proofs.cells.cells_of.Goals as goal
 
 pub add_facet-requires : goal.add_facet-requires
@@ -21,7 +21,7 @@ loop-facet-preserved c =
       cells = λ s.
           c.in_ok-add_facet.ensures.cells s
           ∙ ap (after_facet f s) (c.loop-facet.invariant.cells s)
-          ∙ sym (kept_more (take i fs) f s)
+          ∙ sym (cells_more (take i fs) f s)
           ∙ ap (λ gs. kept_at gs s) (sym more);
       unique = c.in_ok-add_facet.ensures.unique;
     }

@@ -6,7 +6,8 @@ use Rattle.simplex.specs.Simplex.{is_within, union, without}
 use Rattle.facet_set.specs.Complex.{generated}
 use Rattle.facet_set.specs.Flips.{allowed, flip}
 use Rattle.facet_set.proofs.FlipLaws.{flips_back_lem}
-use Rattle.flip_rules.proofs.FlippedList.{generated-flip, few_labels}
+use Rattle.facet_set.proofs.BallLaws.{few_labels}
+use Rattle.flip_rules.proofs.FlippedList.{generated-flip}
 use Rattle.flip_rules.proofs.flipping.apply.Goals as goal
 
 pub push_ball-requires : goal.push_ball-requires

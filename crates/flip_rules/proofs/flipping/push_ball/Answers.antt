@@ -1,6 +1,6 @@
 use Rattle.std.proofs.Common.{ap, ◌∙◌}
 use Rattle.simplex.specs.Simplex.{union, without}
-use Rattle.flip_rules.proofs.FlippedList.{room, pushed}
+use Rattle.facet_set.proofs.BallLaws.{room, pushed}
 use Rattle.flip_rules.proofs.flipping.push_ball.Goals as goal
 
 pub union-requires : goal.union-requires

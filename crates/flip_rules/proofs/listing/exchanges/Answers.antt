@@ -7,7 +7,7 @@ use Rattle.facet_set.specs.Numbers.{size, faces_of_size}
 use Rattle.flip_rules.specs.declared.tallies.Sizes.{Sizes}
 use Rattle.flip_rules.specs.Tallies.{same, option_at, AreTalliesOf}
 use Rattle.flip_rules.proofs.ExchangeLaws.{exchanges_are}
-use Rattle.flip_rules.proofs.KeyLaws.{keys_are}
+use Rattle.flip_rules.proofs.TallyLaws.{keys_are}
 use Rattle.flip_rules.proofs.listing.exchanges.Goals as goal
 
 pub returns : goal.returns

@@ -1,5 +1,5 @@
 use Rattle.std.proofs.Common.{◌∙◌}
-use Rattle.flip_rules.proofs.StarLaws.{counted_star}
+use Rattle.facet_set.proofs.StarLaws.{counted_star}
 use Rattle.flip_rules.proofs.parts.is_star.Goals as goal
 
 pub returns : goal.returns

@@ -1,7 +1,7 @@
 use Rattle.std.proofs.Common.{◌≡◌, ◌+◌, ◌++◌, ◌∷◌, [], take, sym, ap, ◌∙◌}
 use Rattle.std.proofs.lemmas.List.{take_more}
 use Rattle.flip_rules.specs.Tallies.{kept_at, after_facet}
-use Rattle.flip_rules.proofs.TallyLaws.{kept_more}
+use Rattle.flip_rules.proofs.TallyLaws.{tallies_more}
 use Rattle.flip_rules.proofs.tallies.tallies_of.Goals as goal
 
 pub loop-facet-preserved : goal.loop-facet-preserved
@@ -13,5 +13,5 @@ loop-facet-preserved c =
     λ s n.
     c.in_ok-add_facet.ensures s n
     ∙ ap (after_facet f s) (c.loop-facet.invariant s n)
-    ∙ sym (kept_more (take i fs) f s)
+    ∙ sym (tallies_more (take i fs) f s)
     ∙ ap (λ gs. kept_at gs s) (sym more)

@@ -1,13 +1,13 @@
 use Rattle.std.proofs.Common.{◌≡◌, ◌∙◌, ap}
 use Rattle.facet_set.specs.Complex.{generated}
-use Rattle.facet_set.specs.Parts.{link}
+use Rattle.facet_set.specs.Parts.{link, link_pieces}
 use Rattle.facet_set.proofs.GeneratedLaws.{if_ok}
-use Rattle.local_parts.specs.Pieces.{link_pieces}
-use Rattle.local_parts.proofs.AroundLaws.{sets, link_is}
+use Rattle.facet_set.proofs.ComplexLaws.{sets_of}
+use Rattle.facet_set.proofs.LinkLaws.{link_is}
 use Rattle.local_parts.proofs.around.link_of.Goals as goal
 
 pub returns : goal.returns
 returns c =
     if_ok (λ d. d ≡ generated c.deref.result.now) (λ d. d ≡ link c.args.c.now c.args.a.now) c.generated.result
-    (λ d e. e ∙ ap generated (c.deref.ensures.value ∙ c.in_ok-pieces.ensures ∙ ap (λ f. link_pieces f c.args.a.now) c.as_slice.ensures.value) ∙ link_is c.args.c.now c.args.a.now (sets c.args.c.now c.as_slice.ensures.simplices))
+    (λ d e. e ∙ ap generated (c.deref.ensures.value ∙ c.in_ok-pieces.ensures ∙ ap (λ f. link_pieces f c.args.a.now) c.as_slice.ensures.value) ∙ link_is c.args.c.now c.args.a.now (sets_of c.args.c.now c.as_slice.ensures.simplices))
     c.generated.ensures

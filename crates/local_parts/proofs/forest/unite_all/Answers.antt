@@ -1,5 +1,6 @@
 use Rattle.std.proofs.Common.{arith}
-use Rattle.local_parts.proofs.ForestLaws.{alone, in_place, forest_step}
+use Rattle.facet_set.proofs.SetLaws.{in_place}
+use Rattle.local_parts.proofs.ForestLaws.{alone, forest_step}
 use Rattle.local_parts.proofs.forest.unite_all.Goals as goal
 
 pub loop-pair-init : goal.loop-pair-init

@@ -4,8 +4,9 @@ use Rattle.std.specs.Ordering.{nat_cmp}
 use Rattle.simplex.specs.InOrder.{is_increasing}
 use Rattle.facet_set.specs.Connection.{classes, components}
 use Rattle.facet_set.proofs.GeneratedLaws.{if_ok}
+use Rattle.facet_set.proofs.ComplexLaws.{verts_increase}
 use Rattle.local_parts.specs.Forest.{HasChains}
-use Rattle.local_parts.proofs.ComponentLaws.{verts_increase, these_pairs, these_within, component_count}
+use Rattle.local_parts.proofs.ComponentLaws.{these_pairs, these_within, component_count}
 use Rattle.local_parts.proofs.vertex_classes.components.Goals as goal
 
 pub vertex_pairs-requires : goal.vertex_pairs-requires

@@ -1,9 +1,9 @@
 use Rattle.std.proofs.Common.{◌∙◌, ap, sym}
 use Rattle.std.specs.Prelude.{◌==◌}
 use Rattle.facet_set.specs.Maps.{image_of}
+use Rattle.simplex.proofs.Decided.{false_at, equal_from}
 use Rattle.relabelling.specs.Colours.{colour, next_colour, complex_colour}
 use Rattle.relabelling.proofs.ColourLaws.{next_kept, complex_kept}
-use Rattle.relabelling.proofs.SetLaws.{false_at, equal_from}
 use Rattle.relabelling.proofs.colours.refine_once.Goals as goal
 
 pub returns-clause-kept : goal.returns-clause-kept

@@ -3,7 +3,7 @@ use Rattle.std.specs.Prelude.{Option, is_some}
 use Rattle.std.specs.Map.{lookup}
 use Rattle.std.specs.List.{zip}
 use Rattle.facet_set.specs.Complex.{verts}
-use Rattle.relabelling.specs.Walks.{AreLabels, Extends, IsKnown, NoneAgrees, map_of}
+use Rattle.relabelling.specs.Walks.{Extends, IsKnown, NoneAgrees, map_of}
 use Rattle.relabelling.proofs.ExtendLaws.{none_extension, whole_extension, given_known, given_labels}
 use Rattle.relabelling.proofs.extending.extended.Goals as goal
 

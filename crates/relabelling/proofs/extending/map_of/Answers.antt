@@ -1,8 +1,7 @@
-use Rattle.std.proofs.Common.{◌∙◌, ◌≡◌, Bool, true, false, cond, Some, None, ap, sym}
+use Rattle.std.proofs.Common.{◌∙◌, true, false, cond, Some, None, ap, sym}
 use Rattle.facet_set.specs.Flips.{same_facets}
-use Rattle.facet_set.specs.Maps.{image}
+use Rattle.facet_set.specs.Maps.{image, becomes}
 use Rattle.relabelling.proofs.ExtendLaws.{paired, vertices_labels}
-use Rattle.relabelling.specs.Relabelled.{becomes}
 use Rattle.relabelling.proofs.extending.map_of.Goals as goal
 
 pub carries-requires : goal.carries-requires

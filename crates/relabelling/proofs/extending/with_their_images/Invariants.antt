@@ -1,5 +1,5 @@
 use Rattle.std.proofs.Common.{◌≡◌, map, take}
-use Rattle.relabelling.specs.Relabelled.{becomes}
+use Rattle.facet_set.specs.Maps.{becomes}
 use Rattle.relabelling.proofs.extending.with_their_images.Given as goal
 
 abbrev pub invariant-loop-label : goal.invariant-loop-label

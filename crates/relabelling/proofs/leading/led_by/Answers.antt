@@ -1,14 +1,13 @@
-use Rattle.std.proofs.Common.{◌≡◌, ◌∙◌, ◌<◌, [], ℕ, List, ap, get_or, length, sym, subst, rules}
+use Rattle.std.proofs.Common.{◌∙◌, ◌<◌, [], ℕ, List, ap, get_or, length, sym, subst, rules}
 use Rattle.std.specs.List.{list_all}
 use Rattle.simplex.specs.Members.{In}
 use Rattle.simplex.specs.Simplex.{is_label}
-use Rattle.facet_set.specs.Complex.{verts}
 use Rattle.facet_set.specs.Maps.{image_of}
+use Rattle.facet_set.proofs.SetLaws.{in_item}
 use Rattle.relabelling.specs.Colours.{colour}
 use Rattle.relabelling.proofs.ExtendLaws.{as_many}
 use Rattle.relabelling.proofs.LeadLaws.{no_first, plain_kept, refined_nowhere}
 use Rattle.relabelling.proofs.LeastLaws.{none_first}
-use Rattle.relabelling.proofs.SetLaws.{in_item}
 use Rattle.relabelling.proofs.leading.led_by.Goals as goal
 
 pub returns-then-count-target_count : goal.returns-then-count-target_count

@@ -1,4 +1,4 @@
-use Rattle.std.proofs.Common.{◌≡◌, ℕ, List, IfOk, ap, sym, subst, Some}
+use Rattle.std.proofs.Common.{◌≡◌, ℕ, List, IfOk, sym, subst, Some}
 use Rattle.std.specs.Prelude.{Option}
 use Rattle.relabelling.specs.Least.{lesser}
 use Rattle.relabelling.proofs.leading.lesser_than.Goals as goal

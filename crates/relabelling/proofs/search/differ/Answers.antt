@@ -1,8 +1,8 @@
 use Rattle.std.proofs.Common.{◌∙◌, get_or, length, refl, sym}
 use Rattle.std.specs.Prelude.{◌==◌}
+use Rattle.simplex.proofs.Decided.{false_at, not_true, equal_from}
 use Rattle.relabelling.specs.Colours.{colour}
 use Rattle.relabelling.proofs.LeadLaws.{apart_nowhere}
-use Rattle.relabelling.proofs.SetLaws.{false_at, not_true, equal_from}
 use Rattle.relabelling.proofs.search.differ.Goals as goal
 
 pub returns : goal.returns

@@ -1,4 +1,4 @@
-use Rattle.std.proofs.Common.{◌≡◌, ◌-◌, length, take, drop, subst}
+use Rattle.std.proofs.Common.{◌≡◌, ◌-◌, take, drop, subst}
 use Rattle.std.proofs.lemmas.List.{take_rest}
 use Rattle.replay_report.specs.Report.{lines_of, split_parts, parts}
 use Rattle.replay_report.proofs.CuttingLaws.{whole_part}

@@ -1,4 +1,4 @@
-use Rattle.std.proofs.Common.{◌≡◌, ◌≤◌, ◌-◌, length, drop}
+use Rattle.std.proofs.Common.{◌≤◌, ◌-◌, length}
 use Rattle.replay_report.proofs.CuttingLaws.{ReachesTo}
 use Rattle.replay_report.proofs.cutting.tail_len.Given as goal
 

@@ -1,6 +1,5 @@
 use Rattle.std.proofs.Common.{◌≤◌, sym, subst, arith}
-use Rattle.facet_set.specs.Numbers.{weight}
-use Rattle.shell_names.specs.Limits.{weight_limit}
+use Rattle.facet_set.specs.Numbers.{weight, weight_limit}
 use Rattle.shell_names.specs.State.{Complex, present}
 use Rattle.shell_names.proofs.StateLaws.{weight_entry}
 use Rattle.script_shell.proofs.Refusals.{if_some}

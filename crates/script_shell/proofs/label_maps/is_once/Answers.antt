@@ -1,6 +1,6 @@
 use Rattle.std.proofs.Common.{List, ℕ, length, ap, ◌∙◌}
 use Rattle.std.specs.Prelude.{◌==◌}
-use Rattle.script_shell.proofs.Renaming.{distinct_test}
+use Rattle.facet_set.proofs.SetLaws.{distinct_test}
 use Rattle.script_shell.proofs.label_maps.is_once.Goals as goal
 
 pub returns : goal.returns

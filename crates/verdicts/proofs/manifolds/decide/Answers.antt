@@ -1,6 +1,6 @@
 use Rattle.std.proofs.Common.{◌∙◌, subst, slice_index_or}
 use Rattle.simplex.specs.Members.{In}
-use Rattle.verdicts.proofs.ManifoldLaws.{in_place}
+use Rattle.facet_set.proofs.SetLaws.{in_place}
 use Rattle.verdicts.proofs.manifolds.decide.Goals as goal
 
 pub walk_on_link-requires-clause-vertex : goal.walk_on_link-requires-clause-vertex

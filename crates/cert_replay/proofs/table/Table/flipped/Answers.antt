@@ -2,8 +2,8 @@ use Rattle.std.proofs.Common.{◌≡◌, ◌∙◌, ◌++◌, map, length, ap, a
 use Rattle.simplex.specs.declared.flip.Flip.{Flip}
 use Rattle.simplex.specs.Simplex.{union, without}
 use Rattle.facet_set.specs.Flips.{allowed, flip}
+use Rattle.facet_set.proofs.BallLaws.{few_labels}
 use Rattle.cert_replay.specs.Corners.{facets_of}
-use Rattle.cert_replay.proofs.BallLaws.{few_labels}
 use Rattle.cert_replay.proofs.TableLaws.{flipped_table, table_made, facets_are}
 use Rattle.cert_replay.proofs.table.Table.flipped.Goals as goal
 

@@ -1,9 +1,7 @@
-use Rattle.std.proofs.Common.{◌≡◌, ◌∙◌, List, ℕ, nat_eq, false, cond, refl, sym}
-use Rattle.std.specs.Cmp.Lexicographic.{pointwise}
-use Rattle.relabelling.specs.Walks.{is_unseen}
+use Rattle.std.proofs.Common.{false, refl}
 use Rattle.relabelling.specs.declared.extending.Walk.{Walk}
 use Rattle.relabelling.proofs.RidgeLaws.{across_label, across_short}
-use Rattle.relabelling.proofs.WalkLaws.{reach_new, reach_old, across_reached, now_seen, out_now, taken_out}
+use Rattle.relabelling.proofs.WalkLaws.{reach_new, reach_old, across_reached, now_seen, out_now}
 use Rattle.relabelling.proofs.extending.Walk.reach.Goals as goal
 
 pub with_label-facet-requires-clause-short : goal.with_label-facet-requires-clause-short

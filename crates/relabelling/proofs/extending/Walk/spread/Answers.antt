@@ -1,7 +1,7 @@
 use Rattle.std.proofs.Common.{List, ℕ, get_or, subst}
 use Rattle.simplex.specs.Members.{In}
 use Rattle.simplex.proofs.Members.{none}
-use Rattle.relabelling.proofs.SetLaws.{in_place}
+use Rattle.facet_set.proofs.SetLaws.{in_place}
 use Rattle.relabelling.proofs.WalkLaws.{all_reached, goes_itself, goes_further, reaches_more, stays_known}
 use Rattle.relabelling.proofs.extending.Walk.spread.Goals as goal
 

@@ -1,5 +1,5 @@
 use Rattle.std.proofs.Common.{length, arith, ap}
-use Rattle.relabelling.proofs.SetLaws.{in_item}
+use Rattle.facet_set.proofs.SetLaws.{in_item}
 use Rattle.relabelling.proofs.flags.Flag.longer_orders.Goals as goal
 
 pub add_longer-requires : goal.add_longer-requires

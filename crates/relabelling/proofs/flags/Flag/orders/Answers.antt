@@ -1,4 +1,4 @@
-use Rattle.std.proofs.Common.{◌≡◌, ◌∙◌, ◌++◌, ◌∷◌, [], ℕ, List, length, take, take_all, ap, sym, subst, arith}
+use Rattle.std.proofs.Common.{◌∙◌, ◌++◌, ◌∷◌, [], take_all, ap, subst, arith}
 use Rattle.std.specs.List.{flat_map}
 use Rattle.simplex.specs.Members.{In}
 use Rattle.relabelling.specs.Colours.{colour}

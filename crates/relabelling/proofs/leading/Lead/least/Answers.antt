@@ -1,17 +1,15 @@
-use Rattle.std.proofs.Common.{◌≡◌, ◌∙◌, ℕ, List, IfSome, ap, map, take, take_all, get_or, length, sym, subst, refl, inl, inr, arith}
-use Rattle.std.specs.List.{list_all}
-use Rattle.std.specs.Prelude.{Option, None, slice_index_or}
+use Rattle.std.proofs.Common.{◌≡◌, ◌∙◌, ℕ, List, IfSome, ap, map, take, take_all, sym, subst, inl, inr}
+use Rattle.std.specs.Prelude.{None, slice_index_or}
 use Rattle.simplex.specs.Members.{In}
 use Rattle.simplex.specs.Simplex.{is_label, is_simplex}
 use Rattle.simplex.proofs.Filled.{labels_of}
 use Rattle.simplex.proofs.Members.{all_at, none}
-use Rattle.facet_set.specs.Maps.{image_of}
+use Rattle.facet_set.specs.Maps.{image_of, relabelled}
+use Rattle.facet_set.proofs.MapLaws.{in_relabelled}
+use Rattle.facet_set.proofs.SetLaws.{in_item, in_place}
 use Rattle.relabelling.specs.Least.{Improves}
-use Rattle.relabelling.specs.Relabelled.{relabelled}
 use Rattle.relabelling.proofs.CarryLaws.{facet_carried}
 use Rattle.relabelling.proofs.LeastLaws.{improves_itself, item_in, improves_on, reached_first}
-use Rattle.relabelling.proofs.MapLaws.{in_relabelled}
-use Rattle.relabelling.proofs.SetLaws.{in_item, in_place}
 use Rattle.relabelling.proofs.leading.Lead.least.Goals as goal
 
 pub loop-place-init : goal.loop-place-init

@@ -1,9 +1,8 @@
 use Rattle.std.proofs.Common.{take, slice_index_or}
 use Rattle.std.specs.Prelude.{None}
 use Rattle.simplex.specs.Members.{In}
-use Rattle.facet_set.specs.Maps.{image_of}
+use Rattle.facet_set.specs.Maps.{image_of, relabelled}
 use Rattle.relabelling.specs.Least.{Improves}
-use Rattle.relabelling.specs.Relabelled.{relabelled}
 use Rattle.relabelling.proofs.leading.Lead.least.Given as goal
 
 abbrev pub invariant-loop-place : goal.invariant-loop-place

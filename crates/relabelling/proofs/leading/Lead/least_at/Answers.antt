@@ -1,10 +1,9 @@
 use Rattle.std.proofs.Common.{◌≡◌, ℕ, List, length, IfSome, sym, subst}
 use Rattle.std.specs.Prelude.{slice_index_or}
 use Rattle.simplex.specs.Members.{In}
-use Rattle.facet_set.specs.Maps.{image_of}
+use Rattle.facet_set.specs.Maps.{relabelled}
 use Rattle.relabelling.specs.Colours.{colour}
 use Rattle.relabelling.specs.Flags.{AreOrders, Fits}
-use Rattle.relabelling.specs.Relabelled.{relabelled}
 use Rattle.relabelling.proofs.FlagLaws.{order_found}
 use Rattle.relabelling.proofs.LeastLaws.{improves_as, improves_beaten}
 use Rattle.relabelling.proofs.leading.Lead.least_at.Goals as goal

@@ -1,13 +1,13 @@
-use Rattle.std.proofs.Common.{◌≡◌, ◌∙◌, ℕ, List, ap, map, take, length, sym, subst, inl, inr, arith}
+use Rattle.std.proofs.Common.{◌≡◌, ◌∙◌, ap, map, take, length, sym, inl, inr}
 use Rattle.std.specs.List.{list_all}
 use Rattle.simplex.specs.Members.{In}
 use Rattle.simplex.specs.Simplex.{is_label}
 use Rattle.simplex.proofs.Members.{none}
 use Rattle.facet_set.proofs.GeneratedLaws.{taken_in}
 use Rattle.facet_set.specs.Maps.{image_of}
+use Rattle.facet_set.proofs.SetLaws.{in_item}
 use Rattle.relabelling.specs.Bijections.{extension}
 use Rattle.relabelling.proofs.LeastLaws.{improves_by, improves_itself, improves_on}
-use Rattle.relabelling.proofs.SetLaws.{in_item}
 use Rattle.relabelling.proofs.leading.Lead.least_of.Goals as goal
 
 pub loop-order-init : goal.loop-order-init

@@ -1,6 +1,0 @@
-use Rattle.constructions.proofs.MapLaws.{numbered_next}
-use Rattle.constructions.proofs.relabelled.renumbering.Goals as goal
-
-pub loop-i-preserved : goal.loop-i-preserved
-loop-i-preserved c =
-    numbered_next c.args.labels.now c.loop-i.pairs.items c.push.new.self.items c.args.greatest c.loop-i.i 0 c.loop-i-test.true c.loop-i.invariant c.in_ok-push.ensures.items

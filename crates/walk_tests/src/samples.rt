@@ -1,0 +1,48 @@
+// Complexes of which several of the examples speak.
+use facet_set::Facets;
+use simplex::Simplex;
+use std::alloc::Global;
+use std::test::Fail;
+
+pub const OCTAHEDRON: &[&[u32]] = &[
+    &[1, 3, 5],
+    &[1, 3, 6],
+    &[1, 4, 5],
+    &[1, 4, 6],
+    &[2, 3, 5],
+    &[2, 3, 6],
+    &[2, 4, 5],
+    &[2, 4, 6],
+];
+
+// The torus with seven vertices (Moebius, Csaszar).
+pub const TORUS: &[&[u32]] = &[
+    &[1, 2, 4],
+    &[1, 2, 6],
+    &[1, 3, 4],
+    &[1, 3, 7],
+    &[1, 5, 6],
+    &[1, 5, 7],
+    &[2, 3, 5],
+    &[2, 3, 7],
+    &[2, 4, 5],
+    &[2, 6, 7],
+    &[3, 4, 6],
+    &[3, 5, 6],
+    &[4, 5, 7],
+    &[4, 6, 7],
+];
+
+pub const SQUARE: &[&[u32]] = &[&[1, 2], &[1, 4], &[2, 3], &[3, 4]];
+
+// The same, with other opposite vertices.
+pub const CROSSED: &[&[u32]] = &[&[1, 3], &[1, 4], &[2, 3], &[2, 4]];
+
+// The complex that the lists generate.
+pub fn complex(alloc: Global, lists: &[&[u32]]) -> Result<Facets, Fail> {
+    let mut list = Vec::new(alloc);
+    for labels in lists {
+        list.push(Simplex::of(labels)?)?;
+    }
+    Ok(Facets::generated(alloc, list.as_slice())?)
+}
