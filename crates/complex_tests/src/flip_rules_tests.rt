@@ -1,6 +1,6 @@
 use crate::samples::{OCTAHEDRON, TETRAHEDRON, TORUS, complex, has_facets};
 use facet_set::Facets;
-use flip_rules::{FlipFault, apply, check, options};
+use flip_rules::{FlipFault, apply, candidates, check, options};
 use simplex::{Flip, Flips, Simplex};
 use std::alloc::Global;
 use std::test::Fail;
@@ -70,6 +70,15 @@ fn flip_of_an_octahedron_makes_a_far_edge_present(rt: HostRuntime) -> Result<(),
     let after = flipped_octahedron(rt.alloc())?;
     let far = flip(&[2, 4], &[5, 6])?;
     assert_eq!(rt; check(&after, &far), Err(FlipFault::Present));
+    Ok(())
+}
+
+#[test]
+fn no_edge_of_a_tetrahedron_is_open(rt: HostRuntime) -> Result<(), Fail> {
+    let sphere = complex(rt.alloc(), TETRAHEDRON)?;
+    let edges = candidates(rt.alloc(), &sphere, 1)?;
+    let open = edges.as_slice().iter().filter(|n| !n.is_blocked).count();
+    assert_eq!(rt; (edges.len(), open), (6, 0));
     Ok(())
 }
 

@@ -25,7 +25,8 @@ use Rattle.facet_set.proofs.FaceLaws.{face_simplex}
 use Rattle.facet_set.proofs.StarLaws.{counted_star}
 use Rattle.flip_rules.specs.declared.tally.Tally.{Tally}
 use Rattle.flip_rules.specs.Counts.{OneCounterpart, StarByCounts}
-use Rattle.flip_rules.specs.Tallies.{fitting, tally_of, kept_at, is_sized, counted, link_at, flip_of, flip_where, option_at}
+use Rattle.flip_rules.specs.Candidates.{has_star, candidate_of, candidates, open_flip, OpenCandidates}
+use Rattle.flip_rules.specs.Tallies.{fitting, tally_of, kept_at, is_sized, counted, link_at, flip_of, candidate_where, candidate_at}
 use Rattle.flip_rules.proofs.TallyLaws.{link_rising}
 
 pub off : {X : Type 0} (v : Bool) (x : Option X) → cond (v && false) x None ≡ None
@@ -84,12 +85,10 @@ module _ (c : List (List ℕ)) (simple : list_all is_simplex c ≡ true) (a : Li
       sym (counted_star c a (link_vertices c a) simple cx sa (link_simplex short) pure n link_apart)
       ∙ ap (λ v. v && (degree c a == length (link_vertices c a))) link_joins
 
-  pub allowed_by_counts : is_complex c ≡ true → is_simplex a ≡ true → is_pure c ≡ true → length (link_vertices c a) ≤ 12 → 0 < length a → 0 < length (link_vertices c a)
-      → length a + length (link_vertices c a) ≡ size c + 1
-      → allowed c a (link_vertices c a) ≡ ((degree c a == length (link_vertices c a)) && not (is_face c (link_vertices c a)))
-  allowed_by_counts cx sa pure short la lb n =
-      five (is_pure c) sized (is_disjoint a b) (same_facets (facets_with c a) (ball a b)) (not (is_face c b)) pure is_so link_apart
-      ∙ ap (λ v. v && not (is_face c b)) (star_by_counts cx sa pure short n)
+  pub has_star_by_counts : is_complex c ≡ true → is_simplex a ≡ true → is_pure c ≡ true → length (link_vertices c a) ≤ 12 → 0 < length a → 0 < length (link_vertices c a)
+      → length a + length (link_vertices c a) ≡ size c + 1 → has_star c a (link_vertices c a) ≡ (degree c a == length (link_vertices c a))
+  has_star_by_counts cx sa pure short la lb n =
+      four (is_pure c) sized (is_disjoint a b) (same_facets (facets_with c a) (ball a b)) pure is_so link_apart ∙ star_by_counts cx sa pure short n
     where
       b : List ℕ
       b = link_vertices c a
@@ -100,14 +99,12 @@ module _ (c : List (List ℕ)) (simple : list_all is_simplex c ≡ true) (a : Li
       is_so : sized ≡ true
       is_so = grind (arith, nat_tests)
 
-      ends : (s t : Bool) → (s && (t && true)) ≡ (s && t)
-      ends true true = refl
-      ends true false = refl
-      ends false t = refl
+      ends : (s : Bool) → (s && true) ≡ s
+      ends true = refl
+      ends false = refl
 
-      five : (p q r s t : Bool) → p ≡ true → q ≡ true → r ≡ true → (p && (q && (r && (s && (t && true))))) ≡ (s && t)
-      five p q r s t h k m =
-          ap (λ v. v && (q && (r && (s && (t && true))))) h ∙ ap (λ v. v && (r && (s && (t && true)))) k ∙ ap (λ v. v && (s && (t && true))) m ∙ ends s t
+      four : (p q r s : Bool) → p ≡ true → q ≡ true → r ≡ true → (p && (q && (r && (s && true)))) ≡ s
+      four p q r s h k m = ap (λ v. v && (q && (r && (s && true)))) h ∙ ap (λ v. v && (r && (s && true))) k ∙ ap (λ v. v && (s && true)) m ∙ ends s
 
 -- ---- what is found at a face by what is kept
 off_size : (n d : ℕ) (b : List ℕ) → (length b == n) ≡ false → counted n d (fitting b) ≡ None
@@ -129,29 +126,29 @@ on_size n d b e l =
         (λ h. let m = equal_at d (length b) h in equal_from (min d (2 ^ 64 - 1)) n (omega arith))
 
 module _ (c : List (List ℕ)) (simple : list_all is_simplex c ≡ true) (cx : is_complex c ≡ true) (pure : is_pure c ≡ true) (few : size c ≤ 12) where
-  module _ (j : ℕ) (below : suc j < size c) (kept : List ℕ → Option Tally) (are : (s : List ℕ) → IsTrue (is_sized (record { gone = size c - suc j; come = suc j + 1 }) s) → kept s ≡ kept_at c s) where
-    exchange_at : (a : List ℕ) → is_simplex a ≡ true → is_face c a ≡ true → (length a == size c - suc j) ≡ true → option_at kept (suc j + 1) a ≡ option_of c (suc j) a
-    exchange_at a sa fa size_is =
-        elim (length b == suc j + 1) as (λ v. (length b == suc j + 1) ≡ v → option_at kept (suc j + 1) a ≡ option_of c (suc j) a) [
-          | false ↦ λ e. ap (flip_where kept a) (there ∙ off_size (suc j + 1) _ b e) ∙ sym (ap (λ v. cond (allowed c a b && v) (Some (flip_of a b)) None) e ∙ off (allowed c a b) _)
-          | true ↦ λ e. ap (flip_where kept a) (there ∙ on_size (suc j + 1) (degree c a) b e (omega (arith, below, few))) ∙ last (degree c a == length b) (is_face c b) (put e) ∙ sym (there_too e)
+  module _ (i : ℕ) (below : i < size c) (kept : List ℕ → Option Tally) (are : (s : List ℕ) → IsTrue (is_sized (record { gone = size c - i; come = i + 1 }) s) → kept s ≡ kept_at c s) where
+    found_at : (a : List ℕ) → is_simplex a ≡ true → is_face c a ≡ true → (length a == size c - i) ≡ true → candidate_at kept (i + 1) a ≡ candidate_of c i a
+    found_at a sa fa size_is =
+        elim (length b == i + 1) as (λ v. (length b == i + 1) ≡ v → candidate_at kept (i + 1) a ≡ candidate_of c i a) [
+          | false ↦ λ e. ap (candidate_where kept a) (there ∙ off_size (i + 1) _ b e) ∙ sym (ap (λ v. cond (has_star c a b && v) (Some (record { flip = flip_of a b; is_blocked = is_face c b })) None) e ∙ off (has_star c a b) _)
+          | true ↦ λ e. ap (candidate_where kept a) (there ∙ on_size (i + 1) (degree c a) b e (omega (arith, below, few))) ∙ last (degree c a == length b) (is_face c b) (put e) ∙ sym (there_too e)
         ] refl
       where
         b : List ℕ
         b = link_vertices c a
 
-        len : length a ≡ size c - suc j
-        len = equal_at (length a) (size c - suc j) size_is
+        len : length a ≡ size c - i
+        len = equal_at (length a) (size c - i) size_is
 
-        there : link_at (suc j + 1) (kept a) ≡ counted (suc j + 1) (min (degree c a) (2 ^ 64 - 1)) (fitting b)
-        there = ap (link_at (suc j + 1)) (are a (ap (λ v. v || (length a == suc j + 1)) size_is) ∙ ap (λ v. cond v (Some (tally_of c a)) None) (and_both _ _ sa fa))
+        there : link_at (i + 1) (kept a) ≡ counted (i + 1) (min (degree c a) (2 ^ 64 - 1)) (fitting b)
+        there = ap (link_at (i + 1)) (are a (ap (λ v. v || (length a == i + 1)) size_is) ∙ ap (λ v. cond v (Some (tally_of c a)) None) (and_both _ _ sa fa))
 
-        put : (length b == suc j + 1) ≡ true → is_some (kept b) ≡ is_face c b
+        put : (length b == i + 1) ≡ true → is_some (kept b) ≡ is_face c b
         put e =
-            let k : length b ≡ suc j + 1 = equal_at (length b) (suc j + 1) e in
-            ap is_some (are b (either (length b == size c - suc j) e) ∙ ap (λ v. cond (v && is_face c b) (Some (tally_of c b)) None) (link_simplex c simple a (omega (arith, k, few, below)))) ∙ some (is_face c b)
+            let k : length b ≡ i + 1 = equal_at (length b) (i + 1) e in
+            ap is_some (are b (either (length b == size c - i) e) ∙ ap (λ v. cond (v && is_face c b) (Some (tally_of c b)) None) (link_simplex c simple a (omega (arith, k, few, below)))) ∙ some (is_face c b)
           where
-            either : (v : Bool) → (length b == suc j + 1) ≡ true → (v || (length b == suc j + 1)) ≡ true
+            either : (v : Bool) → (length b == i + 1) ≡ true → (v || (length b == i + 1)) ≡ true
             either true h = refl
             either false h = h
 
@@ -159,26 +156,79 @@ module _ (c : List (List ℕ)) (simple : list_all is_simplex c ≡ true) (cx : i
             some true = refl
             some false = refl
 
-        there_too : (length b == suc j + 1) ≡ true → option_of c (suc j) a ≡ cond (((degree c a == length b) && not (is_face c b)) && true) (Some (flip_of a b)) None
+        there_too : (length b == i + 1) ≡ true → candidate_of c i a ≡ cond ((degree c a == length b) && true) (Some (record { flip = flip_of a b; is_blocked = is_face c b })) None
         there_too e =
-            let k : length b ≡ suc j + 1 = equal_at (length b) (suc j + 1) e in
-            let w = allowed_by_counts c simple a cx sa pure (omega (arith, k, few, below)) (omega (arith, len, below)) (omega (arith, k)) (omega (arith, k, len, below)) in
-            λ i. cond (w i && e i) (Some (flip_of a b)) None
+            let k : length b ≡ i + 1 = equal_at (length b) (i + 1) e in
+            let w = has_star_by_counts c simple a cx sa pure (omega (arith, k, few, below)) (omega (arith, len, below)) (omega (arith, k)) (omega (arith, k, len, below)) in
+            λ x. cond (w x && e x) (Some (record { flip = flip_of a b; is_blocked = is_face c b })) None
 
-        last : (d f : Bool) → is_some (kept b) ≡ f → flip_where kept a (cond (d && true) (Some b) None) ≡ cond ((d && not f) && true) (Some (flip_of a b)) None
-        last true true e = ap (λ v. cond v None (Some (flip_of a b))) e
-        last true false e = ap (λ v. cond v None (Some (flip_of a b))) e
+        last : (d f : Bool) → is_some (kept b) ≡ f → candidate_where kept a (cond (d && true) (Some b) None) ≡ cond (d && true) (Some (record { flip = flip_of a b; is_blocked = f })) None
+        last true f e = ap (λ v. Some (record { flip = flip_of a b; is_blocked = v })) e
         last false f e = refl
 
-  -- the options of a class that is not 0
-  pub exchanges_are : (i : ℕ) → 0 < i → i < size c → (kept : List ℕ → Option Tally) → ((s : List ℕ) → IsTrue (is_sized (record { gone = size c - i; come = i + 1 }) s) → kept s ≡ kept_at c s)
-      → filter_map (option_at kept (i + 1)) (faces_of_size c (size c - i)) ≡ options c i
-  exchanges_are zero above below kept are = absurd (omega arith)
-  exchanges_are (suc j) above below kept are =
-      filter_map_same (option_at kept (suc j + 1)) (option_of c (suc j)) (faces_of_size c (size c - suc j)) (λ a i.
-      let r = from_filter (λ s. length s == size c - suc j) a (faces c) i in
+  -- the candidates of a class
+  pub candidates_are : (i : ℕ) → i < size c → (kept : List ℕ → Option Tally) → ((s : List ℕ) → IsTrue (is_sized (record { gone = size c - i; come = i + 1 }) s) → kept s ≡ kept_at c s)
+      → filter_map (candidate_at kept (i + 1)) (faces_of_size c (size c - i)) ≡ candidates c i
+  candidates_are i below kept are =
+      filter_map_same (candidate_at kept (i + 1)) (candidate_of c i) (faces_of_size c (size c - i)) (λ a k.
+      let r = from_filter (λ s. length s == size c - i) a (faces c) k in
       let f = from_faces c a (sets_of c simple) r.0 in
-      exchange_at j below kept are a (face_simplex c a simple f.0 f.1) f.1 r.1)
+      found_at i below kept are a (face_simplex c a simple f.0 f.1) f.1 r.1)
+
+-- a class without candidates
+no_candidates : (c : List (List ℕ)) (i : ℕ) → ((a : List ℕ) → In a (faces_of_size c (size c - i)) → has_star c a (link_vertices c a) ≡ true → ⊥) → [] ≡ candidates c i
+no_candidates c i f =
+    filter_map_none (candidate_of c i) (faces_of_size c (size c - i)) (λ a j.
+    ap (λ v. cond (v && (length (link_vertices c a) == i + 1)) (Some (record { flip = flip_of a (link_vertices c a); is_blocked = is_face c (link_vertices c a) })) None) (false_from (has_star c a (link_vertices c a)) (f a j)))
+
+pub no_candidates_impure : (c : List (List ℕ)) (i : ℕ) → is_pure c ≡ false → [] ≡ candidates c i
+no_candidates_impure c i h = no_candidates c i (λ a j k. true≢false (sym (and_left (is_pure c) _ k) ∙ h))
+
+pub no_candidates_above : (c : List (List ℕ)) (i : ℕ) → size c ≤ i → [] ≡ candidates c i
+no_candidates_above c i h = no_candidates c i (λ a j k.
+    let r = from_filter (λ s. length s == size c - i) a (faces c) j in
+    let e = equal_at (length a) (size c - i) r.1 in
+    some_labels a (link_vertices c a) e (and_left (sized a (link_vertices c a)) _ (and_right (is_pure c) _ k)))
+  where
+    sized : List ℕ → List ℕ → Bool
+    sized a b = ltb 0 (length a) && ltb 0 (length b) && (length a + length b == size c + 1)
+
+    some_labels : (a b : List ℕ) → length a ≡ size c - i → sized a b ≡ true → ⊥
+    some_labels a b e p = grind (arith, nat_tests)
+
+-- ---- what the candidates have to do with the options
+module _ {X Y Z : Type 0} (f : X → Option Y) (g : Y → Option Z) where
+  abbrev then_of : Option Y → Option Z
+  then_of None = None
+  then_of (Some y) = g y
+
+  filter_map_twice : (xs : List X) → filter_map (λ x. then_of (f x)) xs ≡ filter_map g (filter_map f xs)
+  filter_map_twice [] = refl
+  filter_map_twice (x ∷ xs) =
+      elim (f x) as (λ r. cons_option (then_of r) (filter_map (λ x. then_of (f x)) xs) ≡ filter_map g (cons_option r (filter_map f xs))) [
+        | None ↦ filter_map_twice xs
+        | Some y ↦ ap (cons_option (g y)) (filter_map_twice xs)
+      ]
+
+pub open_candidates_lem : OpenCandidates
+open_candidates_lem c zero above = absurd (omega arith)
+open_candidates_lem c (suc j) above =
+    filter_map_same (option_of c (suc j)) (λ a. then_of (candidate_of c (suc j)) open_flip (candidate_of c (suc j) a)) (faces_of_size c (size c - suc j)) (λ a i.
+    let b = link_vertices c a in
+    one a b (is_pure c) (ltb 0 (length a) && ltb 0 (length b) && (length a + length b == size c + 1)) (is_disjoint a b) (same_facets (facets_with c a) (ball a b)) (is_face c b) (length b == suc j + 1))
+    ∙ filter_map_twice (candidate_of c (suc j)) open_flip (faces_of_size c (size c - suc j))
+  where
+    one : (a b : List ℕ) (p q r s f l : Bool)
+        → cond ((p && (q && (r && (s && (not f && true))))) && l) (Some (flip_of a b)) None
+        ≡ then_of (candidate_of c (suc j)) open_flip (cond ((p && (q && (r && (s && true)))) && l) (Some (record { flip = flip_of a b; is_blocked = f })) None)
+    one a b true true true true true true = refl
+    one a b true true true true false true = refl
+    one a b true true true true true false = refl
+    one a b true true true true false false = refl
+    one a b true true true false f l = refl
+    one a b true true false s f l = refl
+    one a b true false r s f l = refl
+    one a b false q r s f l = refl
 
 -- ---- the laws
 size_few : (c : List (List ℕ)) → list_all is_simplex c ≡ true → size c ≤ 12

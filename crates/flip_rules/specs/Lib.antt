@@ -1,4 +1,6 @@
+pub mod Candidates
 pub mod Counts
+pub mod Members
 pub mod Tallies
 pub mod Tests
 pub mod Undone

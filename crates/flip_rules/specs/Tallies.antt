@@ -8,6 +8,7 @@ use Rattle.simplex.specs.Simplex.{is_simplex, is_within, minus, union, len_limit
 use Rattle.facet_set.specs.Complex.{is_face}
 use Rattle.facet_set.specs.Flips.{link_vertices}
 use Rattle.facet_set.specs.Numbers.{degree}
+use Rattle.flip_rules.specs.declared.candidate.Candidate.{Candidate}
 use Rattle.flip_rules.specs.declared.tally.Tally.{Tally}
 use Rattle.flip_rules.specs.declared.tallies.Sizes.{Sizes}
 
@@ -69,11 +70,11 @@ link_at n (Some tally) = counted n tally.degree tally.up
 abbrev pub flip_of : List ℕ → List ℕ → Flip
 flip_of a b = record { a = a; b = b }
 
--- the flip of a and b, where nothing is kept at b
-abbrev pub flip_where : (List ℕ → Option Tally) → List ℕ → Option (List ℕ) → Option Flip
-flip_where kept a None = None
-flip_where kept a (Some b) = if is_some (kept b) then None else Some (flip_of a b)
+-- the flip of a and b, and whether something is kept at b
+abbrev pub candidate_where : (List ℕ → Option Tally) → List ℕ → Option (List ℕ) → Option Candidate
+candidate_where kept a None = None
+candidate_where kept a (Some b) = Some (record { flip = flip_of a b; is_blocked = is_some (kept b) })
 
--- the flip at a, by what is kept at a and at its link vertices, which are to be n
-abbrev pub option_at : (List ℕ → Option Tally) → ℕ → List ℕ → Option Flip
-option_at kept n a = flip_where kept a (link_at n (kept a))
+-- the candidate at a, by what is kept at a and at its link vertices, which are to be n
+abbrev pub candidate_at : (List ℕ → Option Tally) → ℕ → List ℕ → Option Candidate
+candidate_at kept n a = candidate_where kept a (link_at n (kept a))

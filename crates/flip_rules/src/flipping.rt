@@ -1,7 +1,8 @@
-ghost use Rattle.std.specs.Prelude.{◌≡◌, ◌+◌, ◌≤◌, ◌++◌, IsTrue, IfOk, OnOk, length, map, not};
+ghost use Rattle.std.specs.Prelude.{◌≡◌, ◌+◌, ◌≤◌, [], ◌∷◌, IsTrue, IfOk, OnOk, length, map, not};
 ghost use Rattle.std.specs.List.{filter};
 ghost use Rattle.simplex.specs.Simplex.{is_within, union, without, len_limit};
 ghost use Rattle.facet_set.specs.Flips.{allowed, flip as flipped};
+ghost use Rattle.flip_rules.specs.Members.{HasBoth};
 
 use crate::parts::are_simplices;
 use facet_set::Facets;
@@ -31,15 +32,23 @@ fn union(s: &Simplex, t: &Simplex) -> Simplex
     }
 }
 
-// Adds B with A minus one label, for each label of A.
-fn push_ball(list: &mut Vec<Simplex>, flip: &Flip) -> Result<(), Memory>
+// Puts B with A minus one label in its place, for each label of A.
+fn put_ball(list: &mut Vec<Simplex>, flip: &Flip) -> Result<(), Memory>
     requires { length flip.now.a + length flip.now.b ≤ len_limit + 1 }
-    ensures { OnOk result (list.new.items
-        ≡ list.old.items ++ map (λ x. union flip.now.b (without flip.now.a x)) flip.now.a) }
+    ensures { OnOk result (HasBoth list.new.items list.old.items (map (λ x. union flip.now.b (without flip.now.a x)) flip.now.a)) }
 {
     for label in flip.a.labels() {
-        list.push(union(&flip.b, &flip.a.without(*label)))?;
+        put(list, union(&flip.b, &flip.a.without(*label)))?;
     }
+    Ok(())
+}
+
+// Puts the simplex behind those below it, so that a list in order stays so.
+fn put(list: &mut Vec<Simplex>, s: Simplex) -> Result<(), Memory>
+    ensures { OnOk result (HasBoth list.new.items list.old.items (s ∷ [])) }
+{
+    let place = list.partition_point(|t| *t < s);
+    list.insert(place, s)?;
     Ok(())
 }
 
@@ -53,6 +62,6 @@ pub fn apply(alloc: Global, c: &Facets, flip: &Flip) -> Result<Facets, Memory>
 {
     are_simplices(flip);
     let mut list = without_star(alloc, c.as_slice(), &flip.a)?;
-    push_ball(&mut list, flip)?;
+    put_ball(&mut list, flip)?;
     Facets::generated(alloc, list.as_slice())
 }

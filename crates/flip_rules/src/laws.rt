@@ -1,3 +1,4 @@
+ghost use Rattle.flip_rules.specs.Candidates.{OpenCandidates};
 ghost use Rattle.flip_rules.specs.Counts.{OneCounterpart, StarByCounts};
 ghost use Rattle.flip_rules.specs.Undone.{IsUndone};
 
@@ -15,4 +16,9 @@ pub fn star_by_counts()
 /// What comes in for a face, where it has two labels or more, are the link vertices of the face.
 pub fn one_counterpart()
     ensures { OneCounterpart }
+{}
+
+/// The allowed flips of a class that is not 0 are the candidates of which B is no face.
+pub fn open_candidates()
+    ensures { OpenCandidates }
 {}

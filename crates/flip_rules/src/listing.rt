@@ -4,9 +4,11 @@ ghost use Rattle.std.specs.List.{filter_map};
 ghost use Rattle.facet_set.specs.Flips.{options};
 ghost use Rattle.facet_set.specs.Numbers.{is_pure, size};
 ghost use Rattle.indexmap.specs.IndexMap.{get};
-ghost use Rattle.flip_rules.specs.Tallies.{same, option_at, flip_of};
+ghost use Rattle.flip_rules.specs.Candidates.{candidates, open_flip};
+ghost use Rattle.flip_rules.specs.Tallies.{same, candidate_at, flip_of};
 
-use crate::tallies::{Sizes, Tallies, faces_of_size, option_at, tallies_of};
+use crate::tallies::{Sizes, Tallies, candidate_at, faces_of_size, tallies_of};
+use crate::{Candidate, Candidates};
 use facet_set::{Facets, point};
 use simplex::{Flip, Flips, Memory, Simplex};
 use std::alloc::{AllocError, Global};
@@ -17,9 +19,6 @@ use std::alloc::{AllocError, Global};
 pub fn options(alloc: Global, c: &Facets, class: usize) -> Result<Flips, Memory>
     ensures { IfOk result (λ l. l ≡ options c.now class) }
 {
-    if !c.is_pure() || c.size() <= class {
-        return Ok(Flips::new(alloc));
-    }
     if class == 0 {
         subdivisions(alloc, c)
     } else {
@@ -29,10 +28,11 @@ pub fn options(alloc: Global, c: &Facets, class: usize) -> Result<Flips, Memory>
 
 // The options of class 0.
 fn subdivisions(alloc: Global, c: &Facets) -> Result<Flips, Memory>
-    requires pure { IsTrue (is_pure c.now) }
-    requires below { 0 < size c.now }
     ensures { IfOk result (λ l. l ≡ options c.now 0) }
 {
+    if !c.is_pure() || c.size() == 0 {
+        return Ok(Flips::new(alloc));
+    }
     match c.fresh()? {
         Some(label) => {
             let flips = with_point(alloc, c.as_slice(), &point(label))?;
@@ -57,10 +57,38 @@ fn flip_of(a: &Simplex, b: &Simplex) -> Flip
 
 // The options of a class that is not 0.
 fn exchanges(alloc: Global, c: &Facets, class: usize) -> Result<Flips, Memory>
-    requires pure { IsTrue (is_pure c.now) }
     requires above { 0 < class }
-    requires below { class < size c.now }
     ensures { IfOk result (λ l. l ≡ options c.now class) }
+{
+    let found = candidates(alloc, c, class)?;
+    let flips = open_flips(alloc, found.as_slice())?;
+    Ok(Flips::from_vec(flips))
+}
+
+fn open_flips(alloc: Global, found: &[Candidate]) -> Result<Vec<Flip>, AllocError>
+    ensures { IfOk result (λ v. v.items ≡ filter_map open_flip found.now) }
+{
+    found
+        .iter()
+        .filter_map(|candidate| candidate.open_flip())
+        .collect(alloc)
+}
+
+/// All candidates of the class, in the order of A: the flips of which all that an allowed one needs holds, save that B may be a
+/// face. Of class 0 there are none. The time is as of `options`.
+pub fn candidates(alloc: Global, c: &Facets, class: usize) -> Result<Candidates, Memory>
+    ensures { IfOk result (λ l. l ≡ candidates c.now class) }
+{
+    if !c.is_pure() || c.size() <= class {
+        return Ok(Candidates::new(alloc));
+    }
+    counted(alloc, c, class)
+}
+
+fn counted(alloc: Global, c: &Facets, class: usize) -> Result<Candidates, Memory>
+    requires pure { IsTrue (is_pure c.now) }
+    requires below { class < size c.now }
+    ensures { IfOk result (λ l. l ≡ candidates c.now class) }
 {
     let sizes = Sizes {
         gone: c.size() - class,
@@ -68,21 +96,21 @@ fn exchanges(alloc: Global, c: &Facets, class: usize) -> Result<Flips, Memory>
     };
     let tallies = tallies_of(alloc, c.as_slice(), sizes)?;
     let faces = faces_of_size(&tallies, sizes.gone)?;
-    let flips = flips_at(alloc, &tallies, &faces, sizes.come)?;
-    Ok(Flips::from_vec(flips))
+    let found = candidates_at(alloc, &tallies, &faces, sizes.come)?;
+    Ok(Candidates::from_vec(found))
 }
 
-// The flips at the faces where there is one.
-fn flips_at(
+// The candidates at the faces where there is one.
+fn candidates_at(
     alloc: Global,
     tallies: &Tallies,
     faces: &[Simplex],
     count: usize,
-) -> Result<Vec<Flip>, AllocError>
-    ensures { IfOk result (λ v. v.items ≡ filter_map (option_at (get same tallies.now) count) faces.now) }
+) -> Result<Vec<Candidate>, AllocError>
+    ensures { IfOk result (λ v. v.items ≡ filter_map (candidate_at (get same tallies.now) count) faces.now) }
 {
     faces
         .iter()
-        .filter_map(|a| option_at(tallies, a, count))
+        .filter_map(|a| candidate_at(tallies, a, count))
         .collect(alloc)
 }

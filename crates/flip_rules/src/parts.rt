@@ -37,12 +37,11 @@ pub fn are_simplices(flip: &Flip)
     let _lens = (flip.a.len(), flip.b.len());
 }
 
-// Whether each label is one of A or of B.
-fn lies_in_join(facet: &Simplex, flip: &Flip) -> bool
-    ensures { result ≡ lies_in_join flip.now.a flip.now.b facet.now }
+/// Whether each label is one of A or of B.
+pub fn lies_in_join(s: &Simplex, flip: &Flip) -> bool
+    ensures { result ≡ lies_in_join flip.now.a flip.now.b s.now }
 {
-    facet
-        .labels()
+    s.labels()
         .iter()
         .all(|label| flip.a.has(*label) || flip.b.has(*label))
 }

@@ -3,8 +3,9 @@ ghost use Rattle.std.specs.Prelude.{◌≡◌, ◌==◌, ℕ, List, Some, IfOk, 
 ghost use Rattle.std.specs.List.{filter};
 ghost use Rattle.facet_set.specs.Complex.{simplices};
 ghost use Rattle.indexmap.specs.IndexMap.{get, keys, IsUnique};
-ghost use Rattle.flip_rules.specs.Tallies.{same, AreTalliesOf, is_sized, put_facet, after_facet, option_at};
+ghost use Rattle.flip_rules.specs.Tallies.{same, AreTalliesOf, is_sized, put_facet, after_facet, candidate_at};
 
+use crate::Candidate;
 use crate::tally::Tally;
 use indexmap::IndexMap;
 use simplex::{Flip, Memory, Simplex};
@@ -89,15 +90,14 @@ fn of_size(tallies: &Tallies, size: usize) -> Result<Vec<Simplex>, AllocError>
         .collect(*tallies.allocator())
 }
 
-/// The flip at a face that puts in its link vertices, where these and the facets with the face are so many, and nothing is kept
-/// at the link vertices.
-pub fn option_at(tallies: &Tallies, a: &Simplex, count: usize) -> Option<Flip>
-    ensures { result ≡ option_at (get same tallies.now) count a.now }
+/// The flip at a face that puts in its link vertices, where these and the facets with the face are so many, and whether something
+/// is kept at the link vertices.
+pub fn candidate_at(tallies: &Tallies, a: &Simplex, count: usize) -> Option<Candidate>
+    ensures { result ≡ candidate_at (get same tallies.now) count a.now }
 {
     let b = tallies.get(a)?.link(count)?;
-    if tallies.contains_key(&b) {
-        None
-    } else {
-        Some(Flip { a: *a, b })
-    }
+    Some(Candidate {
+        flip: Flip { a: *a, b },
+        is_blocked: tallies.contains_key(&b),
+    })
 }

@@ -1,2 +1,5 @@
+pub mod FollowingLaws
 pub mod JournalLaws
 pub mod KeptOptions
+pub mod MergeLaws
+pub mod PointLaws

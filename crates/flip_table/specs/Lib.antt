@@ -1,5 +1,5 @@
 pub mod Answers
+pub mod Following
 pub mod Kept
 pub mod Moves
-pub mod OptionLists
 pub mod Session

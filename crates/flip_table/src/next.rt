@@ -1,7 +1,12 @@
-use crate::option_lists::option_lists;
+ghost use Rattle.std.specs.Prelude.{IsTrue};
+ghost use Rattle.simplex.specs.Simplex.{is_simplex};
+ghost use Rattle.facet_set.specs.Facets.{IsFacets};
+
+use crate::following::next_lists;
+use crate::kept::next_point;
 use facet_set::Facets;
-use flip_rules::apply;
-use simplex::{Flip, Flips, Memory};
+use flip_rules::{Candidates, apply};
+use simplex::{Flip, Memory, Simplex};
 use std::alloc::Global;
 
 // A staged flip, with what a session holds after it.
@@ -9,7 +14,8 @@ use std::alloc::Global;
 pub struct Next {
     pub flip: Flip,
     pub present: Facets,
-    pub options: Vec<Flips>,
+    pub candidates: Vec<Candidates>,
+    pub point: Option<Simplex>,
 }
 
 impl Next {
@@ -17,21 +23,41 @@ impl Next {
     ghost use Rattle.simplex.specs.FirstFailing.{first_failing};
     ghost use Rattle.facet_set.specs.Flips.{allowed};
     ghost use Rattle.flip_rules.specs.Tests.{flip_tests};
-    ghost use Rattle.flip_table.specs.Kept.{IsNext};
+    ghost use Rattle.flip_table.specs.Kept.{IsNext, candidate_lists, new_point};
 
     // What the flip leads to.
-    pub fn of(alloc: Global, c: &Facets, flip: &Flip) -> Result<Next, Memory>
+    pub fn of(
+        alloc: Global,
+        c: &Facets,
+        candidates: &[Candidates],
+        point: Option<Simplex>,
+        flip: &Flip,
+    ) -> Result<Next, Memory>
         requires passes { first_failing (flip_tests c.now flip.now) ≡ None }
         requires allowed { IsTrue (allowed c.now flip.now.a flip.now.b) }
+        requires candidates { candidates.now ≡ candidate_lists c.now }
+        requires point { point ≡ new_point c.now }
         ensures flip { IfOk result (λ n. n.flip ≡ flip.now) }
-        ensures next { IfOk result (λ n. IsNext c.now flip.now n.present n.options.items) }
+        ensures next { IfOk result (λ n. IsNext c.now flip.now n.present n.candidates.items n.point) }
     {
+        are_simplices(c, flip);
         let present = apply(alloc, c, flip)?;
-        let options = option_lists(alloc, &present)?;
+        let candidates = next_lists(alloc, candidates, flip, &present)?;
+        let point = next_point(flip, point, &present)?;
         Ok(Next {
             flip: *flip,
             present,
-            options,
+            candidates,
+            point,
         })
     }
+}
+
+// What the types say.
+fn are_simplices(c: &Facets, flip: &Flip)
+    ensures facets { IsFacets c.now }
+    ensures a { IsTrue (is_simplex flip.now.a) }
+    ensures b { IsTrue (is_simplex flip.now.b) }
+{
+    let _lens = (c.as_slice().len(), flip.a.len(), flip.b.len());
 }

@@ -1,15 +1,16 @@
-ghost use Rattle.std.specs.Prelude.{◌≡◌, ◌<◌, ◌↔◌, [], ◌∷◌, ◌++◌, IsSome, length, slice_get, vec_len, vec_capacity};
+ghost use Rattle.std.specs.Prelude.{◌≡◌, ◌<◌, ◌↔◌, [], ◌∷◌, ◌++◌, IsSome, length, map, slice_get, vec_len, vec_capacity};
 ghost use Rattle.std.specs.List.{filter};
 ghost use Rattle.facet_set.specs.Numbers.{degree};
 ghost use Rattle.facet_set.specs.Flips.{flip, after, undoing};
+ghost use Rattle.flip_rules.specs.Tallies.{flip_of};
 ghost use Rattle.flip_table.specs.Kept.{IsKept, IsNext};
 
 use crate::StageFault;
+use crate::kept::{candidate_lists, new_point, open_at, open_count};
 use crate::next::Next;
-use crate::option_lists::option_lists;
 use facet_set::Facets;
-use flip_rules::{FlipFault, check};
-use simplex::{Flip, Flips, Memory, Simplex, Steps};
+use flip_rules::{Candidate, Candidates, FlipFault, check};
+use simplex::{Flip, Memory, Simplex, Steps};
 use std::alloc::Global;
 use std::marker::Model;
 use std::sync::ledger::Ledger;
@@ -19,7 +20,10 @@ use std::sync::ledger::Ledger;
 #[derive(Debug, Drop)]
 pub struct Session {
     present: Facets,
-    options: Vec<Flips>,
+    // Of the classes from 1 on.
+    candidates: Vec<Candidates>,
+    // What a flip of class 0 puts in.
+    point: Option<Simplex>,
     journal: Vec<Flip>,
     staged: Option<Next>,
 }
@@ -39,8 +43,8 @@ impl Model for Session {
       staged = option_map (λ (n : Next). n.flip) s.staged;
     } };
 
-    ghost invariant = { λ s. IsKept s.present s.options.items s.journal.items
-        × IfSome s.staged (λ (n : Next). IsNext s.present n.flip n.present n.options.items × (vec_len s.journal < vec_capacity s.journal)) };
+    ghost invariant = { λ s. IsKept s.present s.candidates.items s.point s.journal.items
+        × IfSome s.staged (λ (n : Next). IsNext s.present n.flip n.present n.candidates.items n.point × (vec_len s.journal < vec_capacity s.journal)) };
 }
 
 impl Session {
@@ -51,6 +55,7 @@ impl Session {
     ghost use Rattle.facet_set.specs.Complex.{is_complex, is_face};
     ghost use Rattle.facet_set.specs.Numbers.{dim, is_pure, degree};
     ghost use Rattle.facet_set.specs.Flips.{allowed, options, is_simplex_boundary, goes, undoing};
+    ghost use Rattle.flip_rules.specs.Candidates.{candidates};
     ghost use Rattle.flip_rules.specs.Tests.{flip_tests};
     ghost use Rattle.flip_table.specs.Answers.{IsStageAnswer};
     ghost use Rattle.flip_table.specs.Moves.{moved, stage_bound};
@@ -62,10 +67,12 @@ impl Session {
         ensures start { IfOk result (λ s. start s ≡ c.now) }
     {
         let present = c.copy()?;
-        let options = option_lists(alloc, &present)?;
+        let candidates = candidate_lists(alloc, &present)?;
+        let point = new_point(&present)?;
         Ok(Session {
             present,
-            options,
+            candidates,
+            point,
             journal: Vec::new(alloc),
             staged: None,
         })
@@ -126,7 +133,28 @@ impl Session {
     pub fn options_count(&self, class: usize) -> usize
         ensures { result ≡ length (options self.now.present class) }
     {
-        self.options_of(class).len()
+        if class == 0 {
+            self.subdivision_count()
+        } else {
+            self.exchange_count(class)
+        }
+    }
+
+    fn subdivision_count(&self) -> usize
+        ensures { result ≡ length (options self.now.present 0) }
+    {
+        match self.point {
+            Some(_) => self.present.as_slice().len(),
+            None => 0,
+        }
+    }
+
+    #[tactic(auto, using(crate::proofs::KeptOptions::open_length))]
+    fn exchange_count(&self, class: usize) -> usize
+        requires { 0 < class }
+        ensures { result ≡ length (options self.now.present class) }
+    {
+        open_count(self.candidates_of(class))
     }
 
     /// The option of the class at the place, from 0, in the order of the sets that go out. None exactly where the complex
@@ -137,15 +165,37 @@ impl Session {
         ensures none { (result ≡ None) ↔ ((is_pure self.now.present ≡ false) ⊎ (length (options self.now.present class) ≤ k)) }
         ensures passes { IfSome result (λ m. first_failing (flip_tests self.now.present m) ≡ None) }
     {
-        flip_of(self.options_of(class), k)
+        if class == 0 {
+            self.subdivision_at(k)
+        } else {
+            self.exchange_at(class, k)
+        }
     }
 
-    // The options of the class. No class above the dimension has any.
-    #[tactic(auto, using(crate::proofs::KeptOptions::list_at, crate::proofs::KeptOptions::list_none))]
-    fn options_of(&self, class: usize) -> &[Flip]
-        ensures { result.now ≡ options self.now.present class }
+    fn subdivision_at(&self, k: usize) -> Option<Flip>
+        ensures { result ≡ slice_get (options self.now.present 0) k }
     {
-        match self.options.get(class) {
+        match &self.point {
+            Some(b) => subdivided(self.present.as_slice(), b, k),
+            None => None,
+        }
+    }
+
+    #[tactic(auto, using(crate::proofs::KeptOptions::open_place))]
+    fn exchange_at(&self, class: usize, k: usize) -> Option<Flip>
+        requires { 0 < class }
+        ensures { result ≡ slice_get (options self.now.present class) k }
+    {
+        open_at(self.candidates_of(class), k)
+    }
+
+    // The candidates of the class. No class above the dimension has any.
+    #[tactic(auto, using(crate::proofs::KeptOptions::list_at, crate::proofs::KeptOptions::list_none))]
+    fn candidates_of(&self, class: usize) -> &[Candidate]
+        requires { 0 < class }
+        ensures { result.now ≡ candidates self.now.present class }
+    {
+        match self.candidates.get(class - 1) {
             Some(list) => list.as_slice(),
             None => &[],
         }
@@ -190,7 +240,7 @@ impl Session {
         self.check(flip)?;
         self.journal.reserve(1)?;
         let alloc = *self.journal.allocator();
-        self.staged = Some(Next::of(alloc, &self.present, flip)?);
+        self.staged = Some(Next::of(alloc, &self.present, &self.candidates, self.point, flip)?);
         Ok(())
     }
 
@@ -208,7 +258,8 @@ impl Session {
         if let Some(next) = self.staged.take() {
             make(
                 &mut self.present,
-                &mut self.options,
+                &mut self.candidates,
+                &mut self.point,
                 &mut self.journal,
                 next,
             );
@@ -224,20 +275,27 @@ impl Session {
     }
 }
 
-// Puts what the flip leads to in place of the present complex and its options, and writes the flip at the end of the journal.
+// Puts what the flip leads to in place of what is kept, and writes the flip at the end of the journal.
 #[tactic(auto, using(crate::proofs::JournalLaws::kept_after, crate::proofs::JournalLaws::start_kept))]
-fn make(present: &mut Facets, options: &mut Vec<Flips>, journal: &mut Vec<Flip>, next: Next)
-    requires kept { IsKept present.old options.old.items journal.old.items }
-    requires next { IsNext present.old next.flip next.present next.options.items }
+fn make(
+    present: &mut Facets,
+    candidates: &mut Vec<Candidates>,
+    point: &mut Option<Simplex>,
+    journal: &mut Vec<Flip>,
+    next: Next,
+)
+    requires kept { IsKept present.old candidates.old.items point.old journal.old.items }
+    requires next { IsNext present.old next.flip next.present next.candidates.items next.point }
     requires room { vec_len journal.old < vec_capacity journal.old }
-    ensures kept { IsKept present.new options.new.items journal.new.items }
+    ensures kept { IsKept present.new candidates.new.items point.new journal.new.items }
     ensures present { present.new ≡ flip present.old next.flip.a next.flip.b }
     ensures journal { journal.new.items ≡ journal.old.items ++ next.flip ∷ [] }
     ensures start { after present.new (undoing journal.new.items) ≡ after present.old (undoing journal.old.items) }
 {
     journal.push(next.flip).unwrap();
     *present = next.present;
-    *options = next.options;
+    *candidates = next.candidates;
+    *point = next.point;
 }
 
 // The flip at the place.
@@ -246,6 +304,13 @@ fn flip_of(flips: &[Flip], k: usize) -> Option<Flip>
     ensures variant { IsSome result ↔ (k < length flips.now) }
 {
     flips.get(k).copied()
+}
+
+// The flip that puts b into the facet at the place.
+fn subdivided(facets: &[Simplex], b: &Simplex, k: usize) -> Option<Flip>
+    ensures { result ≡ slice_get (map (λ a. flip_of a b.now) facets.now) k }
+{
+    facets.get(k).map(|a| Flip { a: *a, b: *b })
 }
 
 // How many of the facets contain the simplex.

@@ -74,7 +74,7 @@ pub fn run_program<S: Source, K: Sink>(
     ensures one_more { S.taken source.new ≤ S.taken source.old + input_limit + 1 }
 
     // What is written before an early end is a front of the output of the bytes that the source gave.
-    ensures early { reads_input (map string_bytes words.now) ≡ true
+    ensures early { has_form (map string_bytes words.now) ≡ true
         → IsOneOf result (Exit.Memory ∷ Exit.ReadFault ∷ Exit.WriteFault ∷ Exit.TooLong ∷ [])
         → (bytes : List ℕ)
         × Gave (S.left source.old) (S.left source.new) (S.taken source.old) (S.taken source.new) bytes

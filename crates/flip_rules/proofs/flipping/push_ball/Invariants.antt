@@ -1,8 +1,0 @@
-use Rattle.std.proofs.Common.{◌≡◌, ◌++◌, drop, map}
-use Rattle.simplex.specs.Simplex.{union, without}
-use Rattle.flip_rules.proofs.flipping.push_ball.Given as goal
-
-abbrev pub invariant-loop-label : goal.invariant-loop-label
-invariant-loop-label l =
-    l.list.items ++ map (λ x. union l.flip.b (without l.flip.a x)) (drop l.label-index l.flip.a)
-    ≡ l.fn.list.items ++ map (λ x. union l.flip.b (without l.flip.a x)) l.flip.a
