@@ -9,7 +9,7 @@ from model import text
 
 model.longest_walk = 2000  # compare.py passes over a script for which the model would have to walk farther
 
-NAMES = ["X", "Y", "Z", "x", "show", "W9", "copy", "a_1", "print", "end", "sum", "Q" * 32, "R" * 33]
+NAMES = ["X", "Y", "Z", "x", "show", "Wide", "copy", "a_1", "print", "end", "sum", "Q" * 32, "R" * 33]
 COMPLEXES = [
     "[[1,2,5],[1,2,6],[1,3,4],[1,3,5],[1,4,6],[2,3,4],[2,3,5],[2,4,6]]",
     "[[1,2,3],[1,2,4],[1,3,5],[1,4,6],[1,5,6],[2,3,6],[2,4,5],[2,5,6],[3,4,5],[3,4,6]]",
