@@ -48,5 +48,9 @@ judge "as many spaces as the limit" 0 "$work/none" "$?" "$work/out"
 head -c 16777217 /dev/zero | tr '\0' ' ' | "$simp" run >"$work/out"
 judge "one space more than the limit" 6 "$work/none" "$?" "$work/out"
 
+# a word of the command line that is no text
+"$simp" "$(printf '\377')" </dev/null >"$work/out" 2>/dev/null
+judge "a word that is no text" 7 "$work/none" "$?" "$work/out"
+
 echo "$passed passed, $failed failed"
 [ "$failed" -eq 0 ]

@@ -21,6 +21,7 @@ use Rattle.facet_set.proofs.ComplexLaws.{exact, same_from, maximal_at, face_at}
 use Rattle.facet_set.proofs.FlipLaws.{Parts, pure_at, in_ball, from_ball, allowed_from, from_flip}
 use Rattle.facet_set.proofs.OptionFlips.{option_members_lem}
 use Rattle.facet_set.proofs.OptionLaws.{in_verts, from_verts}
+use Rattle.facet_set.proofs.FreshLaws.{missing_low, missing_out}
 use Rattle.facet_set.proofs.VertexLaws.{verts_labels}
 use Rattle.facet_set.proofs.Counting.{most-union}
 use Rattle.annealer.specs.Laws.{AlwaysPicks}
@@ -84,37 +85,6 @@ missing_most n (v ∷ vs) = by (n == v) (missing_most (n + 1) vs)
     by true r = omega arith
     by false r = omega arith
 
-pub missing_low : (n : ℕ) (vs : List ℕ) → n ≤ least_missing n vs
-missing_low n [] = omega arith
-missing_low n (v ∷ vs) = by (n == v) (missing_low (n + 1) vs)
-  where
-    by : (t : Bool) → n + 1 ≤ least_missing (n + 1) vs → n ≤ cond t (least_missing (n + 1) vs) n
-    by true r = omega arith
-    by false r = omega arith
-
-missing_not : (n : ℕ) (vs : List ℕ) → is_increasing nat_cmp vs ≡ true → ((v : ℕ) → In v vs → n ≤ v) → In (least_missing n vs) vs → ⊥
-missing_not n [] up low i = none _ i
-missing_not n (v ∷ vs) up low i = by (n == v) refl (missing_not (n + 1) vs (rest_increasing v vs up)) i
-  where
-    by : (t : Bool) → (n == v) ≡ t → (((w : ℕ) → In w vs → n + 1 ≤ w) → In (least_missing (n + 1) vs) vs → ⊥) → In (cond t (least_missing (n + 1) vs) n) (v ∷ vs) → ⊥
-    by true e rest j = elim (cases j) [ inl f ↦ here f | inr k ↦ rest (λ w l. next w (above_at v vs w up l)) k ]
-      where
-        same : n ≡ v
-        same = grind (arith, nat_tests)
-
-        here : least_missing (n + 1) vs ≡ v → ⊥
-        here f = let r = missing_low (n + 1) vs in let s = same in omega (arith, r, s, f)
-
-        next : (w : ℕ) → v < w → n + 1 ≤ w
-        next w h = let s = same in omega (arith, s, h)
-    by false e rest j = elim (cases j) [ inl f ↦ differ f | inr k ↦ below_all (above_at v vs n up k) (low v first) ]
-      where
-        differ : n ≡ v → ⊥
-        differ f = grind (arith, nat_tests)
-
-        below_all : v < n → n ≤ v → ⊥
-        below_all h k = omega arith
-
 -- ---- a facet can be divided
 
 module _ (c : List (List ℕ)) (simple : list_all is_simplex c ≡ true) (cx : is_complex c ≡ true) (pure : is_pure c ≡ true) (some : 0 < size c) (room : length (verts c) < label_limit) where
@@ -131,7 +101,7 @@ module _ (c : List (List ℕ)) (simple : list_all is_simplex c ≡ true) (cx : i
       high r = omega arith
 
   not_vertex : In label (verts c) → ⊥
-  not_vertex = missing_not 1 (verts c) (is_increasing-in_order nat_cmp_total (flat_map (λ s. s) c)) (λ v i. low v (all_at is_label v (verts c) (verts_labels c simple) i))
+  not_vertex = missing_out 1 (verts c) (is_increasing-in_order nat_cmp_total (flat_map (λ s. s) c)) (λ v i. low v (all_at is_label v (verts c) (verts_labels c simple) i))
     where
       low : (v : ℕ) → is_label v ≡ true → 1 ≤ v
       low v h = let k : leb 1 v ≡ true = and_left _ _ h in grind (arith, nat_tests)

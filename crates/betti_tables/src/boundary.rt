@@ -24,12 +24,12 @@ pub fn boundary_rank<L: Ledger>(
     k: usize,
     steps: &mut Steps<L>,
 ) -> Result<usize, Memory>
-    requires simplices { IsTrue (list_all is_simplex l.now) }
+    requires simplices { IsTrue (list_all is_simplex l.now.facets) }
     requires low { 1 ≤ k }
     requires high { k ≤ 12 }
-    requires rows { face_count l.now k ≤ side_limit }
-    requires columns { face_count l.now (k + 1) ≤ side_limit }
-    ensures value { IfOk result (λ r. r ≡ rank_at l.now k) }
+    requires rows { face_count l.now.facets k ≤ side_limit }
+    requires columns { face_count l.now.facets (k + 1) ≤ side_limit }
+    ensures value { IfOk result (λ r. r ≡ rank_at l.now.facets k) }
     ensures steps { OnOk result (steps.new ≡ steps.old + 1) }
     ensures none { OnErr result (steps.new ≡ steps.old) }
 {

@@ -61,13 +61,13 @@ impl RankTable {
         l: &Lattice,
         steps: &mut Steps<L>,
     ) -> Result<Betti, BettiFault>
-        requires { AreRanksOf l.now self.old }
-        ensures value { IfOk result (λ b. map pos (numbers b) ≡ betti_vector l.now) }
-        ensures kept { OnOk result ((k : ℕ) → kept self.new k ≡ kept_after l.now self.old (size l.now) k) }
-        ensures steps { OnOk result (steps.new ≡ steps.old + length (missing self.old (size l.now))) }
-        ensures limit { IfSome (limit_fault l.now) (λ e. (result ≡ Err e) × (self.new ≡ self.old) × (steps.new ≡ steps.old)) }
-        ensures faults { IfErr result (λ e. (limit_fault l.now ≡ Some e) ⊎ (e ≡ fault.Memory)) }
-        ensures ranks { AreRanksOf l.now self.new }
+        requires { AreRanksOf l.now.facets self.old }
+        ensures value { IfOk result (λ b. map pos (numbers b) ≡ betti_vector l.now.facets) }
+        ensures kept { OnOk result ((k : ℕ) → kept self.new k ≡ kept_after l.now.facets self.old (size l.now.facets) k) }
+        ensures steps { OnOk result (steps.new ≡ steps.old + length (missing self.old (size l.now.facets))) }
+        ensures limit { IfSome (limit_fault l.now.facets) (λ e. (result ≡ Err e) × (self.new ≡ self.old) × (steps.new ≡ steps.old)) }
+        ensures faults { IfErr result (λ e. (limit_fault l.now.facets ≡ Some e) ⊎ (e ≡ fault.Memory)) }
+        ensures ranks { AreRanksOf l.now.facets self.new }
         ensures stays { (k r : ℕ) → kept self.old k ≡ Some r → kept self.new k ≡ Some r }
         ensures counted { steps.new + kept_count self.old ≡ steps.old + kept_count self.new }
     {
@@ -92,10 +92,10 @@ impl RankTable {
         l: &Lattice,
         steps: &mut Steps<L>,
     ) -> Result<(), Memory>
-        requires ranks { AreRanksOf l.now self.old }
-        requires limit { limit_fault l.now ≡ None }
-        ensures ok { OnOk result (IsKeptBelow l.now self.old self.new steps.old steps.new (size l.now)) }
-        ensures err { OnErr result ((n : ℕ) × IsKeptBelow l.now self.old self.new steps.old steps.new n) }
+        requires ranks { AreRanksOf l.now.facets self.old }
+        requires limit { limit_fault l.now.facets ≡ None }
+        ensures ok { OnOk result (IsKeptBelow l.now.facets self.old self.new steps.old steps.new (size l.now.facets)) }
+        ensures err { OnErr result ((n : ℕ) × IsKeptBelow l.now.facets self.old self.new steps.old steps.new n) }
     {
         for k in 1..l.size() {
             self.keep(alloc, l, k, steps)?;
@@ -111,13 +111,13 @@ impl RankTable {
         k: usize,
         steps: &mut Steps<L>,
     ) -> Result<(), Memory>
-        requires simplices { IsTrue (list_all is_simplex l.now) }
-        requires ranks { AreRanksOf l.now self.old }
+        requires simplices { IsTrue (list_all is_simplex l.now.facets) }
+        requires ranks { AreRanksOf l.now.facets self.old }
         requires low { 1 ≤ k }
         requires high { k < 12 }
-        requires rows { face_count l.now k ≤ side_limit }
-        requires columns { face_count l.now (k + 1) ≤ side_limit }
-        ensures kept { OnOk result ((j : ℕ) → kept self.new j ≡ (if j == k then Some (rank_at l.now k) else kept self.old j)) }
+        requires rows { face_count l.now.facets k ≤ side_limit }
+        requires columns { face_count l.now.facets (k + 1) ≤ side_limit }
+        ensures kept { OnOk result ((j : ℕ) → kept self.new j ≡ (if j == k then Some (rank_at l.now.facets k) else kept self.old j)) }
         ensures steps { OnOk result (steps.new ≡ steps.old + (if is_some (kept self.old k) then 0 else 1)) }
         ensures counted { OnOk result (steps.new + kept_count self.old ≡ steps.old + kept_count self.new) }
         ensures table { OnErr result (self.new ≡ self.old) }
@@ -143,9 +143,9 @@ impl RankTable {
 
     // The Betti numbers, once all ranks are kept.
     fn numbers(&self, l: &Lattice) -> Betti
-        requires ranks { AreRanksOf l.now self.now }
-        requires all { (k : ℕ) → 1 ≤ k → k < size l.now → IsTrue (is_some (kept self.now k)) }
-        ensures { map pos (numbers result) ≡ betti_vector l.now }
+        requires ranks { AreRanksOf l.now.facets self.now }
+        requires all { (k : ℕ) → 1 ≤ k → k < size l.now.facets → IsTrue (is_some (kept self.now k)) }
+        ensures { map pos (numbers result) ≡ betti_vector l.now.facets }
     {
         let mut betti = Betti::new();
         for k in 0..l.size() {
@@ -156,11 +156,11 @@ impl RankTable {
 
     // b_k, once all ranks are kept.
     fn number(&self, l: &Lattice, k: usize) -> u64
-        requires simplices { IsTrue (list_all is_simplex l.now) }
+        requires simplices { IsTrue (list_all is_simplex l.now.facets) }
         requires inside { k < 12 }
-        requires ranks { AreRanksOf l.now self.now }
-        requires all { (j : ℕ) → 1 ≤ j → j < size l.now → IsTrue (is_some (kept self.now j)) }
-        ensures { pos result ≡ betti_number l.now k }
+        requires ranks { AreRanksOf l.now.facets self.now }
+        requires all { (j : ℕ) → 1 ≤ j → j < size l.now.facets → IsTrue (is_some (kept self.now j)) }
+        ensures { pos result ≡ betti_number l.now.facets k }
     {
         let faces = l.face_count(k + 1);
         let boundaries = self.rank(k) + self.rank(k + 1);
@@ -177,7 +177,7 @@ impl RankTable {
 
 // The fault of the least dimension with too many faces.
 fn limit_fault(l: &Lattice) -> Option<BettiFault>
-    ensures { result ≡ limit_fault l.now }
+    ensures { result ≡ limit_fault l.now.facets }
 {
     for k in 0..l.size() {
         if l.face_count(k + 1) > SIDE_LIMIT {

@@ -6,14 +6,6 @@ ghost use Rattle.facet_set.specs.Star.{lies_in_join, is_counted_star};
 
 use simplex::{Flip, Simplex};
 
-/// What the type says of the two sets of a flip.
-pub fn are_simplices(flip: &Flip)
-    ensures a { IsTrue (is_simplex flip.now.a) }
-    ensures b { IsTrue (is_simplex flip.now.b) }
-{
-    let _lens = (flip.a.len(), flip.b.len());
-}
-
 /// Whether A and B have labels, and together one more than so many.
 pub fn has_flip_size(size: usize, flip: &Flip) -> bool
     ensures { result ≡ (nat_lt 0 (length flip.now.a) && nat_lt 0 (length flip.now.b)

@@ -4,6 +4,7 @@
 mod allowing;
 mod balls;
 mod corners;
+mod laws;
 mod links;
 mod maps;
 mod moving;
@@ -11,5 +12,6 @@ mod replay_fault;
 mod replaying;
 mod table;
 
+pub use laws::faulty_is_not_valid;
 pub use replay_fault::ReplayFault;
 pub use replaying::replay;

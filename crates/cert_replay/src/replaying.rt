@@ -1,4 +1,4 @@
-ghost use Rattle.std.specs.Prelude.{◌≡◌, ◌⊎◌, None, Some, IfOk, OnOk, IfErr, IsTrue};
+ghost use Rattle.std.specs.Prelude.{◌≡◌, ◌⊎◌, false, None, Some, IfOk, OnOk, IfErr, IsTrue};
 ghost use Rattle.std.specs.List.{list_all};
 ghost use Rattle.simplex.specs.FirstFailing.{first_failing};
 ghost use Rattle.simplex.specs.Simplex.{is_label};
@@ -19,13 +19,14 @@ use flip_certificate::{Block, Blocks, Certificate, flip_count};
 use simplex::{Flip, Flips, Memory, Pairs};
 use std::alloc::Global;
 
-/// The number of flips of a valid certificate, as `flip_count` gives it, and otherwise its first fault. The order of the tests
-/// is own.
+/// The number of flips of a valid certificate, as `flip_count` gives it, and otherwise its first fault: so none but those that
+/// are not valid are refused. The order of the tests is own.
 pub fn replay(alloc: Global, c: &Certificate) -> Result<u64, ReplayFault>
     requires { IsTrue (is_shaped c.now) }
     ensures value { IfOk result (λ n. n ≡ flip_count c.now) }
     ensures valid { OnOk result (IsTrue (is_valid c.now)) }
     ensures faults { IfErr result (λ e. (e ≡ fault.Memory) ⊎ (first_fault replay_faults c.now ≡ Some e)) }
+    ensures refused { IfErr result (λ e. (e ≡ fault.Memory) ⊎ (is_valid c.now ≡ false)) }
 {
     test(alloc, c)?;
     Ok(flip_count(c))

@@ -3,7 +3,7 @@ ghost use Rattle.facet_set.specs.Complex.{is_face};
 ghost use Rattle.facet_set.specs.Star.{is_counted_star};
 ghost use Rattle.cert_replay.specs.Corners.{facets_of, AreCorners};
 
-use crate::allowing::{are_simplices, has_flip_size, is_counted_star, lies_in_one};
+use crate::allowing::{has_flip_size, is_counted_star, lies_in_one};
 use crate::balls::push_ball;
 use crate::corners::{add_all, all_facets, facets_at, rare_label, remove_all};
 use facet_set::Facets;
@@ -59,7 +59,7 @@ impl Table {
         if !flip.a.disjoint(&flip.b) {
             return Ok(false);
         }
-        are_simplices(flip);
+        let _back = flip.inverse();
         let star = is_star(alloc, &self.corners, flip)?;
         let face = has_face(alloc, &self.corners, &flip.b)?;
         Ok(star && !face)
@@ -70,10 +70,10 @@ impl Table {
         requires { IsTrue (allowed self flip.now.a flip.now.b) }
         ensures { IfOk result (λ t. t ≡ flipped self flip.now.a flip.now.b) }
     {
-        are_simplices(flip);
+        let back = flip.inverse();
         let Table { mut corners, size } = self;
         let mut gone = Vec::new(alloc);
-        push_ball(&mut gone, &flip.inverse())?;
+        push_ball(&mut gone, &back)?;
         let mut come = Vec::new(alloc);
         push_ball(&mut come, flip)?;
         remove_all(&mut corners, &gone);

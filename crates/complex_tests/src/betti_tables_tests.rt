@@ -44,19 +44,19 @@ fn counted<L: Ledger>(
     l: &Lattice,
     blank: Blank,
 ) -> Result<Betti, BettiFault>
-    requires ranks { AreRanksOf l.now table.old }
+    requires ranks { AreRanksOf l.now.facets table.old }
     requires name { blank.name ≡ L.name }
     requires parts { blank.parts ≡ L.parts }
     requires some { 0 < L.parts }
-    ensures { AreRanksOf l.now table.new }
+    ensures { AreRanksOf l.now.facets table.new }
 {
     let mut steps = Steps::<L>::open(blank);
     table.betti(alloc, l, &mut steps)
 }
 
 fn betti(table: &mut RankTable, alloc: Global, l: &Lattice) -> Result<Betti, BettiFault>
-    requires { AreRanksOf l.now table.old }
-    ensures { AreRanksOf l.now table.new }
+    requires { AreRanksOf l.now.facets table.old }
+    ensures { AreRanksOf l.now.facets table.new }
 {
     counted::<Brand>(table, alloc, l, Blank::new(1))
 }

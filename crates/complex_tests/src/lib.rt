@@ -20,6 +20,10 @@ mod gf2_rank_tests;
 #[cfg(test)]
 mod local_parts_tests;
 #[cfg(test)]
+mod packed_keys_tests;
+#[cfg(test)]
+mod ranked_set_tests;
+#[cfg(test)]
 mod samples;
 #[cfg(test)]
 mod seeded_words_tests;

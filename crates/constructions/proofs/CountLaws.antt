@@ -2,14 +2,11 @@
 use Rattle.std.proofs.Common.{◌≡◌, ℕ, zero, suc, ◌+◌, ◌-◌, ◌*◌, ◌/◌, ◌%◌, ◌^◌, ◌<◌, ◌≤◌, Bool, true, false, List, [], ◌∷◌, ◌++◌, map, length, refl, sym, ap, ◌∙◌, arith, append-nil, length-append, pow-suc, mul-le-mul, mul-div_cancel}
 use Rattle.std.proofs.Math.Nat.{pow-le-pow_right}
 use Rattle.std.proofs.lemmas.List.{length-map}
-use Rattle.constructions.specs.Runs.{runs, starts, choose}
+use Rattle.simplex.specs.Binomials.{choose}
+use Rattle.simplex.proofs.Binomials.{choose_above}
+use Rattle.constructions.specs.Runs.{runs, starts}
 
 -- ---- the number of subsets
-pub choose_above : (n k : ℕ) → n < k → choose n k ≡ 0
-choose_above n zero h = absurd (omega arith)
-choose_above zero (suc k) h = refl
-choose_above (suc n) (suc k) h = let x = choose_above n k (omega arith) in let y = choose_above n (suc k) (omega arith) in omega arith
-
 pub choose_step : (n k d : ℕ) → n ≡ k + d → choose n (suc k) * suc k ≡ choose n k * d
 choose_step zero zero d e = omega arith
 choose_step zero (suc k) d e = absurd (omega arith)

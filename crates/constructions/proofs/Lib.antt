@@ -7,7 +7,6 @@ pub mod JoinLaws
 pub mod LevelLaws
 pub mod NearLaws
 pub mod NumberLaws
-pub mod RankedLaws
 pub mod RelabelLaws
 pub mod RunLaws
 pub mod SphereLaws

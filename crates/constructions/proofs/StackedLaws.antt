@@ -18,7 +18,7 @@ use Rattle.simplex.specs.Simplex.{is_within, is_simplex, union, without, simplex
 use Rattle.simplex.specs.declared.flip.Flip.{Flip}
 use Rattle.simplex.specs.Flip.{class}
 use Rattle.simplex.proofs.InOrderLaws.{and_both, in_order_again, is_increasing-in_order}
-use Rattle.simplex.proofs.Members.{In, first, later, cases, at_head, none, all_from, in_filter, from_filter, in_map, from_map, in_either, in_left, in_right, in_order_in, from_in_order, same_sets, same_in_order}
+use Rattle.simplex.proofs.Members.{In, first, later, cases, at_head, none, all_at, all_from, in_filter, from_filter, in_map, from_map, in_either, in_left, in_right, in_order_in, from_in_order, same_sets, same_in_order}
 use Rattle.simplex.proofs.SimplexLaws.{within_same, within_in, in_within, from_without, in_without, disjoint_from, above_at, is_increasing-filter}
 use Rattle.facet_set.specs.Complex.{verts, facets_with, is_face, generated}
 use Rattle.facet_set.specs.Numbers.{weight}
@@ -36,7 +36,12 @@ use Rattle.simplex.proofs.Ranges.{in_range, from_range, range_rising}
 use Rattle.simplex.proofs.Decided.{false_from}
 use Rattle.constructions.proofs.FrontLaws.{true_below, rising_push, simplex_cone, range_more}
 use Rattle.constructions.proofs.LevelLaws.{IsLevel, level_size, level_weight, level_generated, length_in_order, once_map, member_at, from_remove, in_remove}
-use Rattle.constructions.proofs.RankedLaws.{rising_remove}
+use Rattle.std.specs.List.{slice_get}
+use Rattle.std.proofs.lemmas.Option.{get_or_from_slice_get}
+use Rattle.simplex.specs.InOrder.{is_member}
+use Rattle.ranked_set.specs.Blocks.{but}
+use Rattle.ranked_set.proofs.BlockLaws.{rising_remove}
+use Rattle.ranked_set.proofs.SearchLaws.{member_from, remove_is}
 
 -- the simplex with each of its labels replaced by the new one
 abbrev pub cones : List ℕ → ℕ → List (List ℕ)
@@ -519,3 +524,28 @@ weight_fits d n h k =
     let power : 2 ^ (d + 1) ≤ 2 ^ 12 = pow-le-pow_right {n = 2} (omega arith) {i = d + 1} {j = 12} (omega arith) in
     let all : (d + 2 + d * n) * 2 ^ (d + 1) ≤ 12000014 * 2 ^ 12 = mul-le-mul {n₂ = 12000014} {m₂ = 2 ^ 12} (omega arith) power in
     mod-eq_of_lt (omega arith)
+
+-- ---- a facet taken out
+module _ (c left : List (List ℕ)) (i : ℕ) (f : List ℕ) (up : is_increasing simplex_cmp c ≡ true) (l : i < length c) (there : Some f ≡ slice_get c i) where
+  out_is : get_or c i [] ≡ f
+  out_is = get_or_from_slice_get c i f [] (sym there)
+
+  out_in : In f c
+  out_in = subst (λ x. In x c) out_is (member_at c i [] l)
+
+  pub out_member : is_member simplex_cmp f c ≡ true
+  out_member = member_from f c out_in
+
+  pub out_labels : (label : ℕ) → list_all (λ s. list_all (λ x. ltb x label) s) c ≡ true → list_all (λ x. ltb x label) f ≡ true
+  out_labels label h = all_at (λ s. list_all (λ x. ltb x label) s) f c h out_in
+
+  pub out_rest : left ≡ but f c → left ≡ remove c i
+  out_rest e = e ∙ sym (remove_is c i f up l out_is)
+
+  pub out_rising : left ≡ but f c → is_increasing simplex_cmp left ≡ true
+  out_rising e = ap (is_increasing simplex_cmp) (out_rest e) ∙ rising_remove c i up
+
+  pub out_value : (next : List (List ℕ)) (v : ℕ) → left ≡ but f c → next ≡ in_order simplex_cmp (map (λ x. without f x ++ v ∷ []) f ++ left)
+      → next ≡ in_order simplex_cmp (map (λ x. without (get_or c i []) x ++ v ∷ []) (get_or c i []) ++ remove c i)
+  out_value next v e h =
+      h ∙ (λ j. in_order simplex_cmp (map (λ x. without (sym out_is j) x ++ v ∷ []) (sym out_is j) ++ out_rest e j))

@@ -3,7 +3,6 @@ pub mod Gluing
 pub mod Joins
 pub mod Laws
 pub mod Nearness
-pub mod Ranked
 pub mod Relabelling
 pub mod Runs
 pub mod Spheres

@@ -15,9 +15,3 @@ starts a zero zero = [] ∷ []
 starts a zero (suc k) = []
 starts a (suc r) zero = runs false (a + 1) r zero
 starts a (suc r) (suc k) = map (λ s. a ∷ s) (starts (a + 1) r k) ++ runs false (a + 1) r (suc k)
-
--- the number of subsets of k of n numbers, by Pascal's rule
-abbrev pub choose : ℕ → ℕ → ℕ
-choose n zero = 1
-choose zero (suc k) = 0
-choose (suc n) (suc k) = choose n k + choose n (suc k)

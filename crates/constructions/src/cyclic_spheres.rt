@@ -4,7 +4,8 @@ ghost use Rattle.std.specs.List.{list_all};
 ghost use Rattle.simplex.specs.FirstFailing.{first_failing};
 ghost use Rattle.simplex.specs.Simplex.{is_simplex, label_limit, len_limit};
 ghost use Rattle.constructions.specs.Cyclic.{cyclic, cyclic_tests};
-ghost use Rattle.constructions.specs.Runs.{runs, starts, choose};
+ghost use Rattle.simplex.specs.Binomials.{choose};
+ghost use Rattle.constructions.specs.Runs.{runs, starts};
 ghost use Rattle.constructions.specs.declared.make_fault.MakeFault.TheVariants as fault;
 
 use crate::MakeFault;

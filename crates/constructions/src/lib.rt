@@ -8,7 +8,6 @@ mod joins;
 mod laws;
 mod make_fault;
 mod nearness;
-mod ranked;
 mod relabelling;
 mod sets;
 mod spheres;

@@ -2,20 +2,21 @@
 ghost use Rattle.std.specs.Prelude.{◌≡◌, ◌≤◌, ◌<◌, ◌+◌, ◌*◌, ◌%◌, ◌⊎◌, ℕ, List, [], ◌∷◌, ◌++◌, Some, None, map, length, slice_index_or, nat_lt, IfOk, OnOk, IfErr, true};
 ghost use Rattle.std.specs.List.{list_all, remove};
 ghost use Rattle.simplex.specs.FirstFailing.{first_failing};
-ghost use Rattle.simplex.specs.InOrder.{in_order};
+ghost use Rattle.simplex.specs.InOrder.{in_order, is_increasing, put};
 ghost use Rattle.simplex.specs.Simplex.{simplex_cmp, without, label_limit};
-ghost use Rattle.constructions.specs.Ranked.{joined, IsRanked};
 ghost use Rattle.constructions.specs.Spheres.{bdsimplex};
 ghost use Rattle.constructions.specs.Stacked.{stacked, stacked_tests, StackedGoes};
 ghost use Rattle.constructions.specs.declared.make_fault.MakeFault.TheVariants as fault;
 
 use crate::MakeFault;
 use crate::fronts::{first_labels, with_last};
-use crate::ranked::Ranked;
 use facet_set::Facets;
+use ranked_set::RankedSet;
 use seeded_words::Words;
-use simplex::{LABEL_LIMIT, LEN_LIMIT, Memory, Simplex};
+use simplex::{LABEL_LIMIT, LEN_LIMIT, Memory, Simplex, Steps};
 use std::alloc::Global;
+use std::marker::Brand;
+use std::sync::ledger::{Blank, Ledger};
 
 /// The stacked sphere of dimension d that n flips of class 0 make of the boundary of a simplex, one for each word of the seed (own). The
 /// result weighs at most `room`.
@@ -56,57 +57,103 @@ fn build(alloc: Global, d: u32, n: u32, seed: u64) -> Result<Facets, Memory>
     requires labels { d + 2 + n ≤ label_limit }
     ensures { IfOk result (λ c. c ≡ stacked d n seed) }
 {
-    let mut facets = start(alloc, d)?;
+    build_by::<Brand>(alloc, d, n, seed, Blank::new(1))
+}
+
+// The same with a counter of its own, which nobody reads.
+fn build_by<L: Ledger>(
+    alloc: Global,
+    d: u32,
+    n: u32,
+    seed: u64,
+    blank: Blank,
+) -> Result<Facets, Memory>
+    requires name { blank.name ≡ L.name }
+    requires parts { blank.parts ≡ L.parts }
+    requires some { 0 < L.parts }
+    requires dim { (1 ≤ d) × (d ≤ 11) }
+    requires labels { d + 2 + n ≤ label_limit }
+    ensures { IfOk result (λ c. c ≡ stacked d n seed) }
+{
+    let mut steps = Steps::<L>::open(blank);
+    let mut facets = start(alloc, d, &mut steps)?;
     let mut words = Words::new(seed);
     for k in 0..n {
-        stack(
-            &mut facets,
-            (d + 2 + d * k) as usize,
-            words.next(),
-            d + 3 + k,
-        )?;
+        let count = (d + 2 + d * k) as usize;
+        stack(&mut facets, count, words.next(), d + 3 + k, &mut steps)?;
     }
     Facets::generated(alloc, &facets.to_vec()?)
 }
 
 // The boundary of the simplex with the labels 1..d+2.
-fn start(alloc: Global, d: u32) -> Result<Ranked, Memory>
+fn start<L: Ledger>(alloc: Global, d: u32, steps: &mut Steps<L>) -> Result<RankedSet, Memory>
     requires { (1 ≤ d) × (d ≤ 11) }
-    ensures value { IfOk result (λ r. joined r ≡ bdsimplex (d + 1)) }
-    ensures ranked { IfOk result (λ r. IsRanked r) }
+    ensures value { IfOk result (λ r. r.members ≡ bdsimplex (d + 1)) }
+    ensures rising { IfOk result (λ r. is_increasing simplex_cmp r.members ≡ true) }
 {
     let base = first_labels(d + 1);
-    let mut facets = Ranked::new(alloc);
-    facets.put(base)?;
-    put_cones(&mut facets, &base, d + 2)?;
+    let mut facets = RankedSet::new(alloc);
+    put_in(&mut facets, &base, steps)?;
+    put_cones(&mut facets, &base, d + 2, steps)?;
     Ok(facets)
 }
 
 // Replaces the facet with the number of the word by its cones.
-fn stack(facets: &mut Ranked, count: usize, word: u32, label: u32) -> Result<(), Memory>
-    requires ranked { IsRanked facets.old }
-    requires count { count ≡ length (joined facets.old) }
+fn stack<L: Ledger>(
+    facets: &mut RankedSet,
+    count: usize,
+    word: u32,
+    label: u32,
+    steps: &mut Steps<L>,
+) -> Result<(), Memory>
+    requires rising { is_increasing simplex_cmp facets.old.members ≡ true }
+    requires count { count ≡ length facets.old.members }
     requires some { 0 < count }
-    requires labels { list_all (λ s. list_all (λ x. nat_lt x label) s) (joined facets.old) ≡ true }
+    requires labels { list_all (λ s. list_all (λ x. nat_lt x label) s) facets.old.members ≡ true }
     requires limit { label ≤ label_limit }
-    ensures value { OnOk result (let c = joined facets.old in let a = slice_index_or c (word % count) [] in
-        joined facets.new ≡ in_order simplex_cmp (map (λ x. without a x ++ label ∷ []) a ++ remove c (word % count))) }
-    ensures ranked { OnOk result (IsRanked facets.new) }
+    ensures value { OnOk result (let c = facets.old.members in let a = slice_index_or c (word % count) [] in
+        facets.new.members ≡ in_order simplex_cmp (map (λ x. without a x ++ label ∷ []) a ++ remove c (word % count))) }
+    ensures rising { OnOk result (is_increasing simplex_cmp facets.new.members ≡ true) }
 {
-    let facet = facets.take_out(word as usize % count);
-    put_cones(facets, &facet, label)
+    let facet = match facets.at(word as usize % count) {
+        Some(facet) => facet,
+        None => unreachable!(),
+    };
+    facets.remove(&facet, steps);
+    put_cones(facets, &facet, label, steps)
 }
 
 // Puts in the simplex with one of its labels replaced by the new one, for each of its labels.
-fn put_cones(facets: &mut Ranked, base: &Simplex, label: u32) -> Result<(), Memory>
-    requires ranked { IsRanked facets.old }
+fn put_cones<L: Ledger>(
+    facets: &mut RankedSet,
+    base: &Simplex,
+    label: u32,
+    steps: &mut Steps<L>,
+) -> Result<(), Memory>
+    requires rising { is_increasing simplex_cmp facets.old.members ≡ true }
     requires labels { list_all (λ x. nat_lt x label) base.now ≡ true }
     requires limit { label ≤ label_limit }
-    ensures value { OnOk result (joined facets.new ≡ in_order simplex_cmp (map (λ x. without base.now x ++ label ∷ []) base.now ++ joined facets.old)) }
-    ensures ranked { OnOk result (IsRanked facets.new) }
+    ensures value { OnOk result (facets.new.members ≡ in_order simplex_cmp (map (λ x. without base.now x ++ label ∷ []) base.now ++ facets.old.members)) }
+    ensures rising { OnOk result (is_increasing simplex_cmp facets.new.members ≡ true) }
 {
     for old in base.labels() {
-        facets.put(with_last(&base.without(*old), label))?;
+        put_in(facets, &with_last(&base.without(*old), label), steps)?;
+    }
+    Ok(())
+}
+
+// Puts the simplex in, where it is no member yet.
+fn put_in<L: Ledger>(
+    facets: &mut RankedSet,
+    s: &Simplex,
+    steps: &mut Steps<L>,
+) -> Result<(), Memory>
+    ensures value { OnOk result (facets.new.members ≡ put simplex_cmp s.now facets.old.members) }
+    ensures rising { OnOk result (is_increasing simplex_cmp facets.new.members ≡ true) }
+{
+    if !facets.has(s) {
+        facets.reserve(1)?;
+        facets.insert(s, steps);
     }
     Ok(())
 }

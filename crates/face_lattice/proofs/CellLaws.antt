@@ -28,7 +28,7 @@ degree_within (t ∷ c) s = by (is_within s t) (degree_within c s)
     by false h = omega (arith, h)
 
 -- ---- one facet more
-cell_is : (d e : ℕ) (up vp : List ℕ) → d ≡ e → up ≡ vp → let x : FaceCell = record { degree = d; up = up } in let y : FaceCell = record { degree = e; up = vp } in x ≡ y
+pub cell_is : (d e : ℕ) (up vp : List ℕ) → d ≡ e → up ≡ vp → let x : FaceCell = record { degree = d; up = up } in let y : FaceCell = record { degree = e; up = vp } in x ≡ y
 cell_is d e up vp p q = λ i. record { degree = p i; up = q i }
 
 -- the cell of a face that lies in just these facets

@@ -1,13 +1,10 @@
 -- The cells of a lattice: what is kept at each face of a list of facets.
-use Rattle.std.specs.Prelude.{◌≡◌, ℕ, ◌+◌, Bool, ◌&&◌, List, [], map, Option, Some, None, nat_eq, if◌then◌else◌}
-use Rattle.std.specs.List.{list_all, range_with_len}
-use Rattle.std.specs.Bool.{IsTrue}
+use Rattle.std.specs.Prelude.{ℕ, ◌+◌, Bool, ◌&&◌, List, [], Option, Some, None, nat_eq, if◌then◌else◌}
 use Rattle.std.specs.Cmp.Lexicographic.{pointwise}
-use Rattle.indexmap.specs.IndexMap.{get, IndexMap}
 use Rattle.simplex.specs.Simplex.{is_simplex, is_within, minus, union}
 use Rattle.facet_set.specs.Complex.{is_face}
 use Rattle.facet_set.specs.Flips.{link_vertices}
-use Rattle.facet_set.specs.Numbers.{degree, face_count}
+use Rattle.facet_set.specs.Numbers.{degree}
 
 -- what a cell says of its face: the number of facets that contain it, and its link vertices
 pub record FaceCell : Type 0 where
@@ -26,10 +23,6 @@ kept_at c s = if is_simplex s && is_face c s then Some (cell_of c s) else None
 abbrev pub same : List ℕ → List ℕ → Bool
 same = pointwise nat_eq
 
--- the map keeps at each list what is to be kept there
-abbrev pub AreCellsOf : {S : Type 0} → List (List ℕ) → IndexMap (List ℕ) FaceCell S → Type 0
-AreCellsOf c cells = (s : List ℕ) → get same cells s ≡ kept_at c s
-
 -- the cell of no face
 abbrev pub blank : FaceCell
 blank = record { degree = 0; up = [] }
@@ -46,13 +39,3 @@ put_facet facet s (Some cell) = with_facet facet s cell
 -- what is kept at s after one facet more
 abbrev pub after_facet : List ℕ → List ℕ → Option FaceCell → Option FaceCell
 after_facet facet s kept = if is_simplex s && is_within s facet then Some (put_facet facet s kept) else kept
-
--- the numbers of faces with 0, 1, .., 12 labels
-abbrev pub counts_of : List (List ℕ) → List ℕ
-counts_of c = map (face_count c) (range_with_len 0 13)
-
--- what a lattice keeps beside its facets is what they say
-pub record IsLattice {S : Type 0} (c : List (List ℕ)) (cells : IndexMap (List ℕ) FaceCell S) (counts : List ℕ) : Type 0 where
-  pub simplices : IsTrue (list_all is_simplex c)
-  pub cells_are : AreCellsOf c cells
-  pub counts_are : counts ≡ counts_of c

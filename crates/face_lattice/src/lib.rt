@@ -2,9 +2,14 @@
 #![tactic(auto)]
 
 mod cell;
-mod cells;
+mod labels;
 mod lattice;
 mod laws;
+mod passes;
+mod room;
+mod slab;
+mod slot;
+mod vacant;
 
 pub use lattice::Lattice;
 pub use laws::{faces_lie_in_facets, no_facet_no_face};

@@ -3,7 +3,7 @@ use Rattle.std.proofs.Common.{◌≡◌, ℕ, zero, suc, ◌^◌, ◌<◌, ◌�
 use Rattle.std.proofs.Math.Nat.{pow-suc, pow-le-pow_right, one-le-pow}
 use Rattle.std.specs.List.{range_with_len}
 use Rattle.std.proofs.lemmas.List.FromFn.{get_or-map-range_with_len}
-use Rattle.face_vectors.specs.Vectors.{choose}
+use Rattle.simplex.specs.Binomials.{choose}
 
 -- the first 13 rows, with 13 places each
 abbrev pub triangle : List (List ℕ)
@@ -22,13 +22,3 @@ choose-le (suc n) (suc k) = rw (pow-suc 2 n) (omega (arith, choose-le n k, choos
 
 pub choose-le_at : (n k : ℕ) → n ≤ 12 → choose n k ≤ 2 ^ 12
 choose-le_at n k p = omega (arith, choose-le n k, pow-le-pow_right {n = 2} (omega arith) p)
-
--- no more can be chosen than there are
-pub choose_above : (n k : ℕ) → n < k → choose n k ≡ 0
-choose_above n zero h = absurd (omega (arith, h))
-choose_above zero (suc k) h = refl
-choose_above (suc n) (suc k) h = omega (arith, choose_above n k (omega arith), choose_above n (suc k) (omega arith))
-
-pub choose_all : (n : ℕ) → choose n n ≡ 1
-choose_all zero = refl
-choose_all (suc n) = omega (arith, choose_all n, choose_above n (suc n) (omega arith))

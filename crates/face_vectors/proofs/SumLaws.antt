@@ -2,9 +2,10 @@
 use Rattle.std.proofs.Common.{◌≡◌, ℕ, zero, suc, ◌+◌, ◌-◌, ◌*◌, ◌<◌, ◌≤◌, List, [], ◌∷◌, ℤ, pos, ◌+ℤ◌, ◌-ℤ◌, neg_ℤ, map, length, get_or, add-one, ◌∙◌, ap, subst, sym, refl, arith}
 use Rattle.std.specs.List.{range_with_len}
 use Rattle.std.proofs.lemmas.Int.{ints}
-use Rattle.face_vectors.specs.Vectors.{alternating, choose, count_of_size, h_of, h_term, h_vector_of, signed, sum_ℤ}
+use Rattle.simplex.specs.Binomials.{choose}
+use Rattle.simplex.proofs.Binomials.{choose_above, choose_all}
+use Rattle.face_vectors.specs.Vectors.{alternating, count_of_size, h_of, h_term, h_vector_of, signed, sum_ℤ}
 use Rattle.face_vectors.proofs.VectorLaws.{sum_more}
-use Rattle.face_vectors.proofs.ChooseLaws.{choose_above, choose_all}
 use Rattle.face_vectors.proofs.SignLaws.{signed-add, signed-signed, signed-split, signed-zero}
 
 abbrev pub total : (ℕ → ℤ) → ℕ → ℤ

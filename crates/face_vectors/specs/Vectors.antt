@@ -1,12 +1,7 @@
 -- The numbers that a complex with f_0, f_1, .. , f_d faces has: fs is the list of these, and its length is d + 1.
 use Rattle.std.specs.Prelude.{ℕ, zero, suc, ◌+◌, ◌-◌, ◌*◌, ◌/◌, List, [], ◌∷◌, map, length, fold, slice_index, ℤ, pos, ◌+ℤ◌, ◌-ℤ◌, neg_ℤ}
 use Rattle.std.specs.List.{range_with_len}
-
--- the number of k-subsets of n things
-abbrev pub choose : ℕ → ℕ → ℕ
-choose n zero = 1
-choose zero (suc k) = 0
-choose (suc n) (suc k) = choose n k + choose n (suc k)
+use Rattle.simplex.specs.Binomials.{choose}
 
 -- (-1)^k * z
 abbrev pub signed : ℕ → ℤ → ℤ

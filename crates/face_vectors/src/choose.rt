@@ -1,5 +1,5 @@
 ghost use Rattle.std.specs.Prelude.{◌≡◌, ◌≤◌, ◌^◌};
-ghost use Rattle.face_vectors.specs.Vectors.{choose};
+ghost use Rattle.simplex.specs.Binomials.{choose};
 
 use simplex::LEN_LIMIT;
 

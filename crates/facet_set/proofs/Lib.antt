@@ -7,6 +7,7 @@ pub mod FaceNumbers
 pub mod FaceTables
 pub mod FacetLaws
 pub mod FlipLaws
+pub mod FreshLaws
 pub mod GeneratedLaws
 pub mod LinkLaws
 pub mod MapLaws

@@ -8,8 +8,8 @@ use Rattle.simplex.specs.Simplex.{has, is_within, is_disjoint, union, without, s
 use Rattle.simplex.proofs.Filled.{rising_of}
 use Rattle.simplex.proofs.InOrderLaws.{and_left, and_right, and_both, itself, is_increasing-in_order}
 use Rattle.simplex.proofs.Members.{In, first, later, all_at, all_from, from_filter, from_map}
-use Rattle.simplex.proofs.SimplexLaws.{has_at, has_from, within_in, in_within, within_length, within_same, in_union, from_union, in_without, from_without, disjoint_at, disjoint_from, above_at, rest_increasing, is_increasing-union, is_increasing-filter}
-use Rattle.simplex.proofs.Decided.{agree, equal_at, equal_from}
+use Rattle.simplex.proofs.SimplexLaws.{has_at, has_from, within_in, in_within, within_length, within_same, label_beside, in_union, from_union, in_without, from_without, disjoint_at, disjoint_from, above_at, rest_increasing, is_increasing-union, is_increasing-filter}
+use Rattle.simplex.proofs.Decided.{agree, equal_at, equal_from, false_from}
 use Rattle.facet_set.specs.Complex.{simplices, is_complex, facets_with}
 use Rattle.facet_set.specs.Numbers.{size, is_pure, degree}
 use Rattle.facet_set.specs.Flips.{ball, same_facets}
@@ -42,18 +42,6 @@ count_pieces a b (x ∷ s) h d f =
 pub count-ball : (a b : List ℕ) → is_set b ≡ true → is_disjoint a b ≡ true → length (ball a b) ≡ length b
 count-ball a b h d = count_pieces a b b h d (λ x i. i)
 
--- a set that does not lie in another has a label beside it
-label_beside : (s t : List ℕ) → (is_within s t ≡ true → ⊥) → (x : ℕ) × In x s × (In x t → ⊥)
-label_beside [] t f = absurd (f refl)
-label_beside (x ∷ s) t f =
-    elim (has t x) as (λ v. has t x ≡ v → (y : ℕ) × In y (x ∷ s) × (In y t → ⊥)) [
-      | true ↦ λ e. let r = label_beside s t (λ h. f (and_both _ _ e h)) in (r.0, later r.1, r.2)
-      | false ↦ λ e. (x, first, λ i. apart (has t x) e (has_from t x i))
-    ] refl
-  where
-    apart : (v : Bool) → v ≡ false → v ≡ true → ⊥
-    apart v e h = cc
-
 either_at : (a b : List ℕ) (x : ℕ) → (has a x || has b x) ≡ true → In x a ⊎ In x b
 either_at a b x h = by (has a x) (λ e. has_at a x e) h
   where
@@ -70,7 +58,7 @@ either_from a b x (inr i) = by (has a x) (has_from b x i)
     by false e = e
 
 -- a set with a, with labels of a and b alone and one label fewer than both, is one of the ball
-piece_from : (a b t : List ℕ) → is_set a ≡ true → is_set b ≡ true → is_set t ≡ true → is_disjoint a b ≡ true → is_within a t ≡ true → lies_in_join a b t ≡ true → length t + 1 ≡ length a + length b → In t (ball a b)
+pub piece_from : (a b t : List ℕ) → is_set a ≡ true → is_set b ≡ true → is_set t ≡ true → is_disjoint a b ≡ true → is_within a t ≡ true → lies_in_join a b t ≡ true → length t + 1 ≡ length a + length b → In t (ball a b)
 piece_from a b t sa sb st d w h n =
     let less = length-without out.0 b sb out.1 in
     let whole = length-union a (without b out.0) sa (is_increasing-filter _ (λ y. not (out.0 == y)) b sb) (disjoint_from a (without b out.0) (λ y i j. disjoint_at a b y d i (from_without b out.0 y j).0)) in
@@ -85,7 +73,7 @@ piece_from a b t sa sb st d w h n =
         omega arith
 
     out : (x : ℕ) × In x b × (In x t → ⊥)
-    out = label_beside b t not_all
+    out = label_beside b t (false_from (is_within b t) not_all)
 
     within : is_within t (union a (without b out.0)) ≡ true
     within = in_within t (union a (without b out.0)) (λ x i. in_union a (without b out.0) x (elim (either_at a b x (all_at (λ x. has a x || has b x) x t h i)) [

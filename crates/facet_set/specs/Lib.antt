@@ -6,6 +6,7 @@ pub mod FaceLaws
 pub mod Facets
 pub mod Flips
 pub mod FlipsBack
+pub mod FreshLaws
 pub mod Maps
 pub mod Numbers
 pub mod OptionLaws

@@ -1,5 +1,6 @@
 ghost use Rattle.std.specs.Prelude.{◌≡◌, ◌≤◌, ◌==◌, length};
 ghost use Rattle.std.specs.List.{list_all};
+ghost use Rattle.facet_set.specs.Complex.{is_face};
 ghost use Rattle.facet_set.specs.Numbers.{size, is_pure};
 
 use crate::Change;
@@ -95,7 +96,7 @@ impl Facets {
     pub fn has_face(&self, s: &Simplex) -> bool
         ensures { result ≡ is_face self.now s.now }
     {
-        self.simplices.iter().any(|facet| s.within(facet))
+        is_face(&self.simplices, s)
     }
 
     /// Whether the simplex is a facet.
@@ -166,6 +167,13 @@ impl Facets {
         let simplices = Vec::from_slice(*self.simplices.allocator(), &self.simplices)?;
         Ok(Facets { simplices })
     }
+}
+
+/// Whether the simplex lies in one of these, that is, is a face of the complex that they generate.
+pub fn is_face(facets: &[Simplex], s: &Simplex) -> bool
+    ensures { result ≡ is_face facets.now s.now }
+{
+    facets.iter().any(|facet| s.within(facet))
 }
 
 fn is_pure(simplices: &[Simplex]) -> bool

@@ -2,6 +2,7 @@ ghost use Rattle.std.specs.Prelude.{ℕ, List};
 ghost use Rattle.facet_set.specs.ClassLaws.{ClassChains, ClassMembers};
 ghost use Rattle.facet_set.specs.FaceLaws.{GeneratedMembers, GeneratedFaces, AllFaces, KnownByFaces, FamilyFaces, LinkFaces};
 ghost use Rattle.facet_set.specs.FlipsBack.{FlipsBack};
+ghost use Rattle.facet_set.specs.FreshLaws.{FreshIsLeast};
 ghost use Rattle.facet_set.specs.OptionLaws.{OptionMembers, OptionsIncrease};
 
 /// What a list generates are its members that lie properly in no other.
@@ -55,4 +56,9 @@ pub fn flips_back()
 pub fn option_flips()
     ensures members { OptionMembers }
     ensures order { OptionsIncrease }
+{}
+
+/// The fresh label is the least one that is no vertex, and there is none exactly where each label is a vertex.
+pub fn fresh_is_least()
+    ensures { FreshIsLeast }
 {}

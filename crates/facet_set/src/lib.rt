@@ -10,10 +10,10 @@ mod relabelled;
 mod vertices;
 
 pub use change::Change;
-pub use facets::Facets;
+pub use facets::{Facets, is_face};
 pub use laws::{
-    all_faces, class_chains, class_members, family_faces, flips_back, generated_faces,
-    generated_members, known_by_faces, link_faces, option_flips,
+    all_faces, class_chains, class_members, family_faces, flips_back, fresh_is_least,
+    generated_faces, generated_members, known_by_faces, link_faces, option_flips,
 };
 pub use limits::WEIGHT_LIMIT;
 pub use relabelled::{image, image_of, image_table, images, point, with_images, with_label};

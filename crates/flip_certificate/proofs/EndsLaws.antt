@@ -8,7 +8,7 @@ use Rattle.std.specs.List.{list_all, flat_map, join_with_byte}
 use Rattle.std.proofs.lemmas.Bool.Decides.{nat_tests}
 use Rattle.simplex.specs.declared.flip.Flip.{Flip}
 use Rattle.simplex.proofs.InOrderLaws.{and_left, and_right, and_both}
-use Rattle.script_text.specs.Printing.{bracketed_text, simplex_text, facets_text}
+use Rattle.plain_text.specs.Printing.{bracketed_text, simplex_text, facets_text}
 use Rattle.flip_certificate.specs.declared.block.Block.{Block}
 use Rattle.flip_certificate.specs.declared.certificate.Certificate.{Certificate}
 use Rattle.flip_certificate.specs.declared.certificate.Certificate.TheVariants.{Sphere, Equivalent, Manifold}

@@ -11,8 +11,8 @@ use Rattle.std.proofs.lemmas.Fmt.{digits_decimal, digits_value-decimal, decimal_
 use Rattle.std.proofs.lemmas.Bool.Decides.{nat_tests}
 use Rattle.std.proofs.lemmas.List.{take_more}
 use Rattle.simplex.proofs.InOrderLaws.{and_left, and_right, and_both}
-use Rattle.script_text.specs.Bytes.{is_digit, value_onto}
-use Rattle.script_text.specs.Printing.{simplex_text}
+use Rattle.plain_text.specs.Bytes.{is_digit, value_onto}
+use Rattle.plain_text.specs.Printing.{simplex_text}
 use Rattle.flip_certificate.specs.Reading.{numbers_in, number_of}
 
 module _ {X : Type 0} (p : X → Bool) where

@@ -21,7 +21,7 @@ use Rattle.simplex.specs.InOrder.{is_increasing}
 use Rattle.simplex.specs.Simplex.{is_label, is_simplex}
 use Rattle.simplex.specs.SimplexFault.{set, simplex_of}
 use Rattle.simplex.specs.declared.simplex_fault.SimplexFault.{SimplexFault}
-use Rattle.script_text.specs.Tokens.{is_text}
+use Rattle.plain_text.specs.Bytes.{is_text}
 use Rattle.flip_certificate.specs.Lines.{is_pair}
 use Rattle.flip_certificate.specs.declared.line.Line.TheVariants.{End}
 use Rattle.flip_certificate.specs.Reading.{checked, guess_line, list_pieces, numbers_in, pair_of, pairs_in, words}

@@ -1,5 +1,6 @@
 pub mod CutLaws
 pub mod EndsLaws
+pub mod FirstLaws
 pub mod GuessLaws
 pub mod GuessedLaws
 pub mod ReaderLaws

@@ -11,9 +11,8 @@ use Rattle.std.proofs.lemmas.Bool.Decides.{nat_tests}
 use Rattle.simplex.specs.declared.flip.Flip.{Flip}
 use Rattle.simplex.specs.Simplex.{is_simplex, is_label}
 use Rattle.simplex.proofs.InOrderLaws.{and_left, and_right, and_both}
-use Rattle.script_text.specs.Bytes.{is_digit}
-use Rattle.script_text.specs.Tokens.{is_text}
-use Rattle.script_text.specs.Printing.{simplex_text, facets_text, bracketed_text}
+use Rattle.plain_text.specs.Bytes.{is_digit, is_text}
+use Rattle.plain_text.specs.Printing.{simplex_text, facets_text, bracketed_text}
 use Rattle.flip_certificate.specs.declared.line.Line.{Line}
 use Rattle.flip_certificate.specs.declared.line.Line.TheVariants.{Heading, Complex, Move, Map, Link, End}
 use Rattle.flip_certificate.specs.declared.line.Kind.TheVariants as kind

@@ -5,7 +5,7 @@ use Rattle.std.specs.List.{flat_map, list_all}
 use Rattle.simplex.specs.declared.flip.Flip.{Flip}
 use Rattle.simplex.specs.Simplex.{is_label, is_simplex}
 use Rattle.facet_set.specs.Complex.{is_complex}
-use Rattle.script_text.specs.Printing.{bracketed_text, simplex_text, facets_text}
+use Rattle.plain_text.specs.Printing.{bracketed_text, simplex_text, facets_text}
 use Rattle.flip_certificate.specs.declared.line.Kind.{Kind}
 use Rattle.flip_certificate.specs.declared.line.Kind.TheVariants as kind
 use Rattle.flip_certificate.specs.declared.line.Word.{Word}

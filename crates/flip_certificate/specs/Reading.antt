@@ -2,8 +2,7 @@
 use Rattle.std.specs.Prelude.{ℕ, ◌+◌, ◌-◌, ◌^◌, not, List, [], ◌∷◌, map, length, take, min, Option, Some, None, Result, Ok, Err, if◌then◌else◌, ◌==◌, codes, option_and_then}
 use Rattle.std.specs.List.{filter, slice_split}
 use Rattle.simplex.specs.declared.flip.Flip.{Flip}
-use Rattle.script_text.specs.Bytes.{is_digit, value_onto}
-use Rattle.script_text.specs.Tokens.{is_text}
+use Rattle.plain_text.specs.Bytes.{is_digit, value_onto, is_text}
 use Rattle.flip_certificate.specs.declared.line.Line.{Line}
 use Rattle.flip_certificate.specs.declared.line.Line.TheVariants.{Heading, Complex, Move, Map, Link, End}
 use Rattle.flip_certificate.specs.declared.line.Kind.{Kind}

@@ -1,7 +1,7 @@
 // What a line may be, by its words and the digits in them.
 ghost use Rattle.std.specs.Prelude.{◌≡◌, map, IfOk, OnOk, IsTrue, SomeIff};
 ghost use Rattle.std.specs.List.{list_all};
-ghost use Rattle.script_text.specs.Bytes.{is_digit};
+ghost use Rattle.plain_text.specs.Bytes.{is_digit};
 ghost use Rattle.simplex.specs.Simplex.{is_label, is_simplex};
 ghost use Rattle.flip_certificate.specs.declared.line.Line.{Line};
 ghost use Rattle.flip_certificate.specs.Lines.{is_pair, is_start};

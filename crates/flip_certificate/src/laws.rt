@@ -1,5 +1,5 @@
 ghost use Rattle.std.specs.Prelude.{ℕ};
-ghost use Rattle.flip_certificate.specs.Laws.{OneCertificate, OneText, NoneBeginsAnother, ReadsTheSpelled, FormLines, ValidHasNoFault};
+ghost use Rattle.flip_certificate.specs.Laws.{OneCertificate, OneText, NoneBeginsAnother, ReadsTheSpelled, FormLines, ValidHasNoFault, FirstStuck, FirstDifference};
 ghost use Rattle.flip_certificate.specs.Valid.{Faults};
 
 /// No text is that of two certificates.
@@ -30,4 +30,14 @@ pub fn reads_the_spelled()
 /// Where none is read, the line answered is one more than the greatest number of complete lines with which some spelling begins.
 pub fn form_lines()
     ensures { FormLines }
+{}
+
+/// The flip that a fault names is the first that is not allowed where it stands.
+pub fn first_stuck()
+    ensures { FirstStuck }
+{}
+
+/// The place that a fault of the blocks names is the first at which their vertices and those of the complex differ.
+pub fn first_difference()
+    ensures { FirstDifference }
 {}

@@ -19,8 +19,8 @@ pub use cert_fault::CertFault;
 pub use certificate::Certificate;
 pub use counting::flip_count;
 pub use laws::{
-    form_lines, none_begins_another, one_certificate, one_text, reads_the_spelled,
-    valid_has_no_fault,
+    first_difference, first_stuck, form_lines, none_begins_another, one_certificate, one_text,
+    reads_the_spelled, valid_has_no_fault,
 };
 pub use line::Kind;
 pub use reading::read;

@@ -1,6 +1,6 @@
 // The line that bytes are: what they may be is guessed, and the guess is checked against its spelling.
 ghost use Rattle.std.specs.Prelude.{◌≡◌, IfOk};
-ghost use Rattle.script_text.specs.Tokens.{is_text};
+ghost use Rattle.plain_text.specs.Bytes.{is_text};
 ghost use Rattle.flip_certificate.specs.Lines.{line_text};
 ghost use Rattle.flip_certificate.specs.Reading.{line_of};
 

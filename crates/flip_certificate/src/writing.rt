@@ -1,6 +1,6 @@
 ghost use Rattle.std.specs.Prelude.{◌≡◌, ◌++◌, ◌∷◌, ◌&&◌, [], ℕ, List, map, codes, IfOk, OnOk, IsTrue};
 ghost use Rattle.std.specs.List.{flat_map, join_with_byte, list_all};
-ghost use Rattle.script_text.specs.Printing.{simplex_text};
+ghost use Rattle.plain_text.specs.Printing.{simplex_text};
 ghost use Rattle.flip_certificate.specs.declared.block.Block.{Block};
 ghost use Rattle.flip_certificate.specs.declared.line.Line.{Line};
 ghost use Rattle.flip_certificate.specs.Lines.{block_lines, end_lines, way_lines, is_flip, is_held, is_shaped, is_start, line_text, lines_of, pair_list, text_of, Spells};
@@ -8,7 +8,7 @@ ghost use Rattle.flip_certificate.specs.Lines.{block_lines, end_lines, way_lines
 use crate::line::{Kind, Line, Word};
 use crate::{Block, Certificate};
 use facet_set::Facets;
-use script_text::{put_facets, put_list, put_number};
+use plain_text::{put_facets, put_list, put_number};
 use simplex::{Flip, Memory, Text};
 use std::alloc::Global;
 

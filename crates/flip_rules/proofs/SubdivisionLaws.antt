@@ -16,26 +16,12 @@ use Rattle.facet_set.specs.Numbers.{size, is_pure, faces_of_size}
 use Rattle.facet_set.specs.Flips.{allowed, ball, fresh, least_missing, option_of, options}
 use Rattle.facet_set.proofs.ComplexLaws.{exact, is_set, face_at, face_from, from_faces, in_faces, sets_of}
 use Rattle.facet_set.proofs.FlipLaws.{Parts, allowed_from, pure_at, in_ball, from_ball}
+use Rattle.facet_set.proofs.FreshLaws.{missing_low, missing_out}
 use Rattle.facet_set.proofs.OptionLaws.{in_verts, from_verts, given}
 use Rattle.flip_rules.specs.Tallies.{flip_of}
 use Rattle.flip_rules.proofs.ExchangeLaws.{off, filter_map_none}
 
-differ : (m n : ℕ) → (m == n) ≡ false → m ≡ n → ⊥
-differ m n e f = grind (arith, nat_tests)
-
 -- ---- the least label that is no vertex
-missing : (n : ℕ) (vs : List ℕ) → is_set vs ≡ true → ((v : ℕ) → In v vs → n ≤ v) → (n ≤ least_missing n vs) × (In (least_missing n vs) vs → ⊥)
-missing n [] h f = (omega arith, λ i. none n i)
-missing n (v ∷ vs) h f =
-    elim (n == v) as (λ w. (n == v) ≡ w → (n ≤ cond w (least_missing (n + 1) vs) n) × (In (cond w (least_missing (n + 1) vs) n) (v ∷ vs) → ⊥)) [
-      | true ↦ λ e.
-          let k = equal_at n v e in
-          let r = missing (n + 1) vs (rest_increasing v vs h) (λ u i. let l = above_at v vs u h i in omega arith) in
-          let m = r.0 in
-          (omega arith, λ i. elim (cases i) [ inl q ↦ absurd (omega arith) | inr j ↦ r.1 j ])
-      | false ↦ λ e. (omega arith, λ i. elim (cases i) [ inl q ↦ differ n v e q | inr j ↦ (let l = above_at v vs n h j in let m = f v first in absurd (omega arith)) ])
-    ] refl
-
 label_above : (x : ℕ) → is_label x ≡ true → 1 ≤ x
 label_above x h = let k = and_left (leb 1 x) _ h in grind (arith, nat_tests)
 
@@ -46,11 +32,11 @@ module _ (c : List (List ℕ)) (simple : list_all is_simplex c ≡ true) where
   some_fresh : (x : ℕ) → fresh c ≡ Some x → (IsTrue (is_label x)) × (In x (verts c) → ⊥)
   some_fresh x h =
       let g = given (leb (least_missing 1 (verts c)) label_limit) (least_missing 1 (verts c)) x h in
-      let m = missing 1 (verts c) (is_increasing-in_order nat_cmp_total (flat_map (λ s. s) c))
+      let out = missing_out 1 (verts c) (is_increasing-in_order nat_cmp_total (flat_map (λ s. s) c))
       (λ v i. let r = from_verts c v i in label_above v (all_at is_label v r.0 (labels_of r.0 (all_at is_simplex r.0 c simple r.1)) r.2)) in
-      let low = m.0 in
+      let low = missing_low 1 (verts c) in
       let one : leb 1 (least_missing 1 (verts c)) ≡ true = grind (arith, nat_tests) in
-      subst (λ y. (IsTrue (is_label y)) × (In y (verts c) → ⊥)) g.1 (and_both _ _ one g.0, m.1)
+      subst (λ y. (IsTrue (is_label y)) × (In y (verts c) → ⊥)) g.1 (and_both _ _ one g.0, out)
 
   pub fresh_label : (x : ℕ) → fresh c ≡ Some x → IsTrue (is_label x)
   fresh_label x h = (some_fresh x h).0

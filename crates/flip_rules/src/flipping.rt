@@ -4,7 +4,6 @@ ghost use Rattle.simplex.specs.Simplex.{is_within, union, without, len_limit};
 ghost use Rattle.facet_set.specs.Flips.{allowed, flip as flipped};
 ghost use Rattle.flip_rules.specs.Members.{HasBoth};
 
-use crate::parts::are_simplices;
 use facet_set::Facets;
 use simplex::{Flip, Memory, Simplex};
 use std::alloc::Global;
@@ -60,7 +59,7 @@ pub fn apply(alloc: Global, c: &Facets, flip: &Flip) -> Result<Facets, Memory>
     ensures back { IfOk result (λ d. IsTrue (allowed d flip.now.b flip.now.a)
         × (flipped d flip.now.b flip.now.a ≡ c.now)) }
 {
-    are_simplices(flip);
+    let _back = flip.inverse();
     let mut list = without_star(alloc, c.as_slice(), &flip.a)?;
     put_ball(&mut list, flip)?;
     Facets::generated(alloc, list.as_slice())

@@ -29,14 +29,6 @@ pub fn has_flip_size(facets: &[Simplex], flip: &Flip) -> bool
     !flip.a.is_empty() && !flip.b.is_empty() && flip.a.len() + flip.b.len() == size(facets) + 1
 }
 
-// What the type says of the two sets of a flip.
-pub fn are_simplices(flip: &Flip)
-    ensures a { IsTrue (is_simplex flip.now.a) }
-    ensures b { IsTrue (is_simplex flip.now.b) }
-{
-    let _lens = (flip.a.len(), flip.b.len());
-}
-
 /// Whether each label is one of A or of B.
 pub fn lies_in_join(s: &Simplex, flip: &Flip) -> bool
     ensures { result ≡ lies_in_join flip.now.a flip.now.b s.now }
@@ -71,6 +63,6 @@ pub fn is_star(facets: &[Simplex], flip: &Flip) -> bool
     requires apart { IsTrue (is_disjoint flip.now.a flip.now.b) }
     ensures { result ≡ same_facets (facets_with facets.now flip.now.a) (ball flip.now.a flip.now.b) }
 {
-    are_simplices(flip);
+    let _back = flip.inverse();
     is_counted_star(facets, flip)
 }

@@ -14,7 +14,7 @@ use Rattle.simplex.proofs.Decided.{agree, false_from, false_at, not_true, not_fr
 use Rattle.simplex.proofs.Filled.{rising_of}
 use Rattle.simplex.proofs.InOrderLaws.{and_left, and_right, and_both, is_increasing-in_order}
 use Rattle.simplex.proofs.Members.{In, first, later, none, all_at, all_from, in_filter, from_filter, same_sets}
-use Rattle.simplex.proofs.SimplexLaws.{has_at, has_from, within_in, in_within, within_itself, within_length, within_trans, in_union, from_union, in_without, from_without, is_increasing-filter, is_increasing-union, list_all-filter}
+use Rattle.simplex.proofs.SimplexLaws.{has_at, has_from, within_in, in_within, within_itself, within_length, within_trans, label_beside, in_union, from_union, in_without, from_without, is_increasing-filter, is_increasing-union, list_all-filter}
 use Rattle.facet_set.specs.Complex.{is_complex, is_face, is_maximal_in, faces, facets_with, verts, generated}
 use Rattle.facet_set.specs.Flips.{allowed, ball, flip, link_vertices, same_facets}
 use Rattle.facet_set.specs.Numbers.{size, is_pure, faces_of_size}
@@ -142,15 +142,6 @@ module _ (a b : List ℕ) where
       let r = from_ball b a t i in
       in_join t (λ x j. elim (from_union b (without a r.0) x (subst (λ u. In x u) r.2 j)) [ inl k ↦ inr k | inr k ↦ inl (from_without a r.0 x k).0 ])
 
--- a label of the one set beside the other
-beside : (s t : List ℕ) → is_within s t ≡ false → (x : ℕ) × In x s × (In x t → ⊥)
-beside [] t e = cc
-beside (x ∷ s) t e =
-    elim (has t x) as (λ v. has t x ≡ v → (y : ℕ) × In y (x ∷ s) × (In y t → ⊥)) [
-      | true ↦ λ h. let r = beside s t (sym (ap (λ v. v && is_within s t) h) ∙ e) in (r.0, later r.1, r.2)
-      | false ↦ λ h. (x, first, λ i. false_at (has t x) h (has_from t x i))
-    ] refl
-
 -- complexes in which a set has the same facets
 face_there : (c d : List (List ℕ)) (s : List ℕ) → facets_with c s ≡ facets_with d s → is_face c s ≡ true → is_face d s ≡ true
 face_there c d s e h =
@@ -232,7 +223,7 @@ module _ (c : List (List ℕ)) (m : Flip) (simple : list_all is_simplex c ≡ tr
       agree (is_face d s) (not (is_within m.a s))
       (λ f. let t = face_at d s f in not_from (is_within m.a s) (λ w. false_at (is_face d m.a) back.absent (face_from d m.a t.0 t.1 (within_trans m.a s t.0 w t.2))))
       (λ n.
-      let x = beside m.a s (not_true (is_within m.a s) n) in
+      let x = label_beside m.a s (not_true (is_within m.a s) n) in
       let t = union m.b (without m.a x.0) in
       face_from d s t (in_flip c m.a m.b t (inr (in_ball m.b m.a x.0 x.1)))
       (in_within s t (λ y i. in_union m.b (without m.a x.0) y (elim (from_join m.a m.b s y h i) [

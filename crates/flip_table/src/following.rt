@@ -9,7 +9,7 @@ ghost use Rattle.flip_rules.specs.Candidates.{candidates};
 ghost use Rattle.flip_table.specs.Following.{shared, near, is_inside, stayed, seen_in, next_candidates, next_lists};
 
 use crate::merging::merged;
-use facet_set::Facets;
+use facet_set::{Facets, is_face};
 use flip_rules::{Candidate, Candidates, candidates, lies_in_join};
 use simplex::{Flip, Memory, Simplex};
 use std::alloc::{AllocError, Global};
@@ -153,10 +153,4 @@ fn is_face_after(s: &Simplex, flip: &Flip, next: &Facets, around: &[Simplex]) ->
     } else {
         next.has_face(s)
     }
-}
-
-fn is_face(facets: &[Simplex], s: &Simplex) -> bool
-    ensures { result ≡ is_face facets.now s.now }
-{
-    facets.iter().any(|facet| s.within(facet))
 }

@@ -1,7 +1,3 @@
-ghost use Rattle.std.specs.Prelude.{IsTrue};
-ghost use Rattle.simplex.specs.Simplex.{is_simplex};
-ghost use Rattle.facet_set.specs.Facets.{IsFacets};
-
 use crate::following::next_lists;
 use crate::kept::next_point;
 use facet_set::Facets;
@@ -40,7 +36,8 @@ impl Next {
         ensures flip { IfOk result (λ n. n.flip ≡ flip.now) }
         ensures next { IfOk result (λ n. IsNext c.now flip.now n.present n.candidates.items n.point) }
     {
-        are_simplices(c, flip);
+        let _facets = c.as_slice();
+        let _back = flip.inverse();
         let present = apply(alloc, c, flip)?;
         let candidates = next_lists(alloc, candidates, flip, &present)?;
         let point = next_point(flip, point, &present)?;
@@ -51,13 +48,4 @@ impl Next {
             point,
         })
     }
-}
-
-// What the types say.
-fn are_simplices(c: &Facets, flip: &Flip)
-    ensures facets { IsFacets c.now }
-    ensures a { IsTrue (is_simplex flip.now.a) }
-    ensures b { IsTrue (is_simplex flip.now.b) }
-{
-    let _lens = (c.as_slice().len(), flip.a.len(), flip.b.len());
 }

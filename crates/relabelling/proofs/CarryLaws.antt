@@ -91,7 +91,7 @@ pub same_lists : (c d : List (List ℕ)) → pointwise (pointwise nat_eq) c d �
 same_lists c d =
     agree _ _ (λ h. ap (λ x. same_facets x d) (lists_at c d h) ∙ itself (lists_total nat_list_cmp_total) d) (λ h. ap (λ x. pointwise (pointwise nat_eq) x d) (same_list c d h) ∙ lists_itself d)
 
-zip_is_map : (c : List (List ℕ)) (is : List ℕ) → length is ≡ length (verts c) → is_distinct is ≡ true → is_map (zip (verts c) is) c ≡ true
+pub zip_is_map : (c : List (List ℕ)) (is : List ℕ) → length is ≡ length (verts c) → is_distinct is ≡ true → is_map (zip (verts c) is) c ≡ true
 zip_is_map c is n h =
     and_both _ _ (ap (λ l. pointwise nat_eq l (verts c)) (firsts-zip (verts c) is n) ∙ same_is (verts c) (verts c) ∙ itself nat_list_cmp_total (verts c))
     (ap is_distinct (seconds-zip (verts c) is n) ∙ h)

@@ -5,6 +5,7 @@ use Rattle.std.specs.declared.cmp.Ordering.{Ordering}
 use Rattle.std.specs.declared.cmp.Ordering.TheVariants.{Less, Equal, Greater}
 use Rattle.std.specs.Prelude.{nat_eq, slice_get}
 use Rattle.std.specs.Bool.{IsTrue}
+use Rattle.std.specs.Option.{IsSome}
 use Rattle.std.specs.Cmp.Lexicographic.{pointwise}
 use Rattle.std.specs.List.{find, flat_map, list_all, zip}
 use Rattle.std.proofs.lemmas.Bool.Decides.{nat_tests}
@@ -14,17 +15,18 @@ use Rattle.std.proofs.lemmas.Slice.Zip.{seconds-zip}
 use Rattle.simplex.specs.InOrder.{is_increasing}
 use Rattle.simplex.specs.Simplex.{is_simplex, simplex_cmp, without}
 use Rattle.simplex.proofs.InOrderLaws.{and_left, and_right, and_both, is_increasing-in_order, less_is}
-use Rattle.simplex.proofs.Members.{In, first, later, cases, none, all_at, all_from, in_either, from_map, from_flat_map}
+use Rattle.simplex.proofs.Members.{In, first, later, cases, at_head, none, all_at, all_from, in_either, from_map, from_flat_map}
 use Rattle.simplex.proofs.SimplexLaws.{rest_increasing, is_increasing-filter}
-use Rattle.simplex.proofs.Decided.{false_from, false_at, equal_from}
+use Rattle.simplex.proofs.Decided.{false_from, false_at, equal_from, no_some}
 use Rattle.facet_set.specs.Complex.{is_complex, verts}
 use Rattle.facet_set.specs.Connection.{is_closed, is_strong}
 use Rattle.facet_set.specs.Maps.{image_of}
 use Rattle.facet_set.proofs.GeneratedLaws.{same_at}
 use Rattle.facet_set.proofs.MapLaws.{firsts, seconds}
 use Rattle.facet_set.proofs.FacetLaws.{rising_join}
-use Rattle.relabelling.specs.Bijections.{arrangements, is_map_to, maps, first_map, goes_to, extension}
-use Rattle.relabelling.specs.Least.{comes_before, lesser, Improves, IsBeaten, Reaches}
+use Rattle.relabelling.specs.Bijections.{arrangements, is_map_to, comes_before, maps, first_map, goes_to, extension}
+use Rattle.relabelling.specs.Laws.{FirstMapIsLeast}
+use Rattle.relabelling.specs.Least.{lesser, Improves, IsBeaten, Reaches}
 use Rattle.relabelling.proofs.ExtendLaws.{find_one}
 use Rattle.relabelling.proofs.LeadLaws.{no_first}
 use Rattle.relabelling.proofs.MapsLaws.{zip_parts, firsts_at, in_maps, from_maps, images_arranged, one_by_facet_lem}
@@ -121,6 +123,25 @@ arranged_increasing zero s h = refl
 arranged_increasing (suc n) s h = rows_increasing (λ a. arrangements n (without s a)) s h (λ a. arranged_increasing n (without s a) (is_increasing-filter nat_cmp _ s h))
 
 -- ---- the first of an increasing list
+found : {X : Type 0} (q : X → Bool) (xs : List X) (m : X) → find q xs ≡ Some m → In m xs
+found q [] m g = cc
+found q (x ∷ xs) m g = elim (q x) as (λ v. cond v (Some x) (find q xs) ≡ Some m → In m (x ∷ xs)) [ true ↦ λ h. let is : x ≡ m = cc in subst (λ z. In z (x ∷ xs)) is first | false ↦ λ h. later (found q xs m h) ] g
+
+-- every other member that passes comes after it
+found_least : (p : List ℕ → Bool) (xs : List (List ℕ)) (x y : List ℕ) → is_increasing simplex_cmp xs ≡ true → find p xs ≡ Some x → In y xs → p y ≡ true → (y ≡ x) ⊎ (is_lt (simplex_cmp x y) ≡ true)
+found_least p [] x y h e i k = absurd (none y i)
+found_least p (z ∷ xs) x y h e i k =
+    elim (p z) as (λ v. p z ≡ v → cond v (Some z) (find p xs) ≡ Some x → (y ≡ x) ⊎ (is_lt (simplex_cmp x y) ≡ true)) [
+      | true ↦ λ f g. let same : z ≡ x = cc in elim (cases i) [
+        | inl q ↦ inl (q ∙ same)
+        | inr j ↦ inr (ap (λ w. is_lt (simplex_cmp w y)) (sym same) ∙ all_at (λ w. is_lt (simplex_cmp z w)) y xs (and_left _ _ h) j)
+      ]
+      | false ↦ λ f g. elim (cases i) [
+        | inl q ↦ absurd (false_at (p z) f (ap p (sym q) ∙ k))
+        | inr j ↦ found_least p xs x y (and_right (list_all (λ w. is_lt (simplex_cmp z w)) xs) _ h) g j k
+      ]
+    ] refl e
+
 find_least : (p : List ℕ → Bool) (xs : List (List ℕ)) (x : List ℕ) → is_increasing simplex_cmp xs ≡ true → In x xs → p x ≡ true → ((y : List ℕ) → In y xs → p y ≡ true → is_lt (simplex_cmp y x) ≡ false) → find p xs ≡ Some x
 find_least p [] x h i k f = absurd (none x i)
 find_least p (y ∷ xs) x h i k f =
@@ -148,6 +169,71 @@ is_first c d m h k g f =
 pub none_first : (c d : List (List ℕ)) → ((n : List (ℕ × ℕ)) → is_map_to c d n ≡ true → ⊥) → None ≡ first_map c d
 none_first c d f = no_first c d (λ t. false_from (is_map_to c d (zip (verts c) ([] ++ t))) (λ h. f (zip (verts c) ([] ++ t)) h))
 
+-- ---- the first bijection is the least
+not_before_itself : (m : List (ℕ × ℕ)) → comes_before m m ≡ false
+not_before_itself m = away (simplex_cmp (seconds m) (seconds m)) (nat_list_cmp_total.antisymm (seconds m) (seconds m))
+  where
+    away : (r : Ordering) → r ≡ ordering_reverse r → is_lt r ≡ false
+    away Less e = cc
+    away Equal e = refl
+    away Greater e = refl
+
+not_after : (m n : List (ℕ × ℕ)) → (n ≡ m) ⊎ (comes_before m n ≡ true) → comes_before n m ≡ false
+not_after m n (inl e) = ap (λ z. comes_before z m) e ∙ not_before_itself m
+not_after m n (inr l) = ap is_lt (nat_list_cmp_total.antisymm (seconds n) (seconds m)) ∙ less_away (simplex_cmp (seconds m) (seconds n)) l
+
+first_in : {X : Type 0} (xs : List X) (x : X) → slice_get xs 0 ≡ Some x → In x xs
+first_in [] x e = cc
+first_in (y ∷ xs) x e = at_head x y xs cc
+
+first_least : (c d : List (List ℕ)) (m n : List (ℕ × ℕ)) → list_all is_simplex c ≡ true → is_complex c ≡ true → first_map c d ≡ Some m → is_map_to c d n ≡ true → (n ≡ m) ⊎ (comes_before m n ≡ true)
+first_least c d m n h k e g = by (find p ts) refl
+  where
+    ts : List (List ℕ)
+    ts = arrangements (length (verts c)) (verts d)
+
+    p : List ℕ → Bool
+    p t = is_map_to c d (zip (verts c) t)
+
+    some_is : {X : Type 0} (x y : X) → Some x ≡ Some y → x ≡ y
+    some_is x y q = cc
+
+    no_one : None ≡ Some m → ⊥
+    no_one q = cc
+
+    same : n ≡ zip (verts c) (seconds n)
+    same = zip_parts n ∙ ap (λ l. zip l (seconds n)) (firsts_at c n (and_left _ _ g))
+
+    first_is : option_map (zip (verts c)) (find p ts) ≡ Some m
+    first_is = sym (first_kept (is_map_to c d) (zip (verts c)) ts) ∙ e
+
+    by : (o : Option (List ℕ)) → find p ts ≡ o → (n ≡ m) ⊎ (comes_before m n ≡ true)
+    by None f = absurd (no_one (sym (ap (option_map (zip (verts c))) f) ∙ first_is))
+    by (Some t) f =
+        let is : zip (verts c) t ≡ m = some_is (zip (verts c) t) m (sym (ap (option_map (zip (verts c))) f) ∙ first_is) in
+        let images : seconds m ≡ t = ap seconds (sym is) ∙ seconds-zip (verts c) t (arrangement_length (length (verts c)) (verts d) t (found p ts t f)) in
+        let up = arranged_increasing (length (verts c)) (verts d) (is_increasing-in_order nat_cmp_total (flat_map (λ s. s) d)) in
+        elim (found_least p ts t (seconds n) up f (images_arranged c d n h k g) (ap (is_map_to c d) (sym same) ∙ g)) [
+          | inl q ↦ inl (same ∙ ap (zip (verts c)) q ∙ is)
+          | inr l ↦ inr (ap (λ z. is_lt (simplex_cmp z (seconds n))) images ∙ l)
+        ]
+
+pub first_there : (c d : List (List ℕ)) (m : List (ℕ × ℕ)) → list_all is_simplex c ≡ true → is_complex c ≡ true → is_map_to c d m ≡ true → IsSome (first_map c d)
+first_there c d m h k g = there (maps c d) (in_maps c d m h k g)
+  where
+    there : (xs : List (List (ℕ × ℕ))) → In m xs → IsSome (slice_get xs 0)
+    there [] i = absurd (none m i)
+    there (x ∷ xs) i = refl
+
+pub first_map_is_least_lem : FirstMapIsLeast
+first_map_is_least_lem c d h k = (
+  λ m. (
+    λ e. record { carries = from_maps c d m (first_in (maps c d) m e); least = λ n g. first_least c d m n h k e g },
+    λ l. sym (is_first c d m h k l.carries (λ n g. not_after m n (l.least n g))),
+  ),
+  (λ e n g. no_some (first_map c d) e (first_there c d n h k g), λ f. sym (none_first c d f)),
+)
+
 -- what every bijection reaches is the first one
 pub reached_first : (c d : List (List ℕ)) (o : Option (List (ℕ × ℕ))) → list_all is_simplex c ≡ true → is_complex c ≡ true → ((m : List (ℕ × ℕ)) → o ≡ Some m → is_map_to c d m ≡ true) → ((n : List (ℕ × ℕ)) → is_map_to c d n ≡ true → Reaches o n) → o ≡ first_map c d
 reached_first c d None h k f g = none_first c d (λ n e. nothing n (g n e))
@@ -161,11 +247,7 @@ reached_first c d (Some m) h k f g = is_first c d m h k (f m refl) (λ n e. here
 
 -- ---- the extension of the images of one facet
 extended_map : (c d : List (List ℕ)) (s given : List ℕ) (m : List (ℕ × ℕ)) → extension c d s given ≡ Some m → is_map_to c d m ≡ true
-extended_map c d s given m e = from_maps c d m (found (λ n. goes_to n s given) (maps c d) e)
-  where
-    found : (q : List (ℕ × ℕ) → Bool) (xs : List (List (ℕ × ℕ))) → find q xs ≡ Some m → In m xs
-    found q [] g = cc
-    found q (x ∷ xs) g = elim (q x) as (λ v. cond v (Some x) (find q xs) ≡ Some m → In m (x ∷ xs)) [ true ↦ λ h. let is : x ≡ m = cc in subst (λ z. In z (x ∷ xs)) is first | false ↦ λ h. later (found q xs h) ] g
+extended_map c d s given m e = from_maps c d m (found (λ n. goes_to n s given) (maps c d) m e)
 
 alike_at : (f g : ℕ → ℕ) (s : List ℕ) → map f s ≡ map g s → (a : ℕ) → In a s → f a ≡ g a
 alike_at f g [] e a i = absurd (none a i)
@@ -201,16 +283,8 @@ pub improves_by : (c d : List (List ℕ)) (s given : List ℕ) (o e n : Option (
 improves_by c d s given o e n h k closed strong i x l = record {
   map = λ f m g. lesser_map c d o e f (λ q y. extended_map c d s given q (sym x ∙ y)) m (sym l ∙ g);
   kept = λ m r. subst (λ z. Reaches z m) (sym l) (lesser_left o e m r);
-  reached = λ m g p. subst (λ z. Reaches z m) (sym l) (lesser_right o e m (subst (λ z. Reaches z m) (sym (x ∙ own_extension c d s given m h k closed strong i g p)) (m, refl, not_less_itself m)));
+  reached = λ m g p. subst (λ z. Reaches z m) (sym l) (lesser_right o e m (subst (λ z. Reaches z m) (sym (x ∙ own_extension c d s given m h k closed strong i g p)) (m, refl, not_before_itself m)));
 }
-  where
-    not_less_itself : (m : List (ℕ × ℕ)) → comes_before m m ≡ false
-    not_less_itself m = away (simplex_cmp (seconds m) (seconds m)) (nat_list_cmp_total.antisymm (seconds m) (seconds m))
-      where
-        away : (r : Ordering) → r ≡ ordering_reverse r → is_lt r ≡ false
-        away Less e = cc
-        away Equal e = refl
-        away Greater e = refl
 
 -- what has a lesser first image is not reached from behind
 pub improves_beaten : (c d : List (List ℕ)) (vs s : List ℕ) (o : Option (List (ℕ × ℕ))) (a : ℕ) (Q : List (ℕ × ℕ) → Type 0) → vs ≡ verts c → 0 < length vs → get_or s 0 0 ≡ get_or vs 0 0 → IsBeaten o a → Improves c d o o (λ m. (image_of m (get_or s 0 0) ≡ a) × Q m)

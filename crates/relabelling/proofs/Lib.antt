@@ -1,3 +1,4 @@
+pub mod BoundaryLaws
 pub mod CarryLaws
 pub mod ColourLaws
 pub mod ExtendLaws

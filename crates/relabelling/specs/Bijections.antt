@@ -2,7 +2,8 @@
 use Rattle.std.specs.Prelude.{ℕ, zero, suc, Bool, ◌&&◌, List, [], ◌∷◌, map, length, nat_eq, slice_get, Option}
 use Rattle.std.specs.List.{filter, find, flat_map, zip}
 use Rattle.std.specs.Cmp.Lexicographic.{pointwise}
-use Rattle.simplex.specs.Simplex.{without}
+use Rattle.std.specs.Ordering.{is_lt}
+use Rattle.simplex.specs.Simplex.{without, simplex_cmp}
 use Rattle.facet_set.specs.Complex.{verts}
 use Rattle.facet_set.specs.Flips.{same_facets}
 use Rattle.facet_set.specs.Maps.{image, image_of, is_map}
@@ -15,6 +16,10 @@ arrangements (suc n) s = flat_map (λ a. map (λ t. a ∷ t) (arrangements n (wi
 -- whether the pairs give each vertex of c another image and carry c to d
 abbrev pub is_map_to : List (List ℕ) → List (List ℕ) → List (ℕ × ℕ) → Bool
 is_map_to c d m = is_map m c && same_facets (image m c) d
+
+-- whether the list of images of the first comes before that of the second
+abbrev pub comes_before : List (ℕ × ℕ) → List (ℕ × ℕ) → Bool
+comes_before m n = is_lt (simplex_cmp (map (λ p. p.1) m) (map (λ p. p.1) n))
 
 -- the bijections that carry c to d, in the order of their lists of images
 abbrev pub maps : List (List ℕ) → List (List ℕ) → List (List (ℕ × ℕ))

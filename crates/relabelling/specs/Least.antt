@@ -1,17 +1,12 @@
 -- The bijection with the least list of images, as bijections are tried one after another.
-use Rattle.std.specs.Prelude.{◌≡◌, ℕ, ◌<◌, Bool, false, List, map, length, slice_get, slice_index_or, Option, None, Some, IsTrue, if◌then◌else◌}
-use Rattle.std.specs.Ordering.{is_lt}
+use Rattle.std.specs.Prelude.{◌≡◌, ℕ, ◌<◌, false, List, map, length, slice_get, slice_index_or, Option, None, Some, IsTrue, if◌then◌else◌}
 use Rattle.std.specs.List.{list_all}
 use Rattle.simplex.specs.Members.{In}
-use Rattle.simplex.specs.Simplex.{is_label, simplex_cmp}
+use Rattle.simplex.specs.Simplex.{is_label}
 use Rattle.facet_set.specs.Complex.{verts}
 use Rattle.facet_set.specs.Connection.{is_strong}
-use Rattle.relabelling.specs.Bijections.{is_map_to}
+use Rattle.relabelling.specs.Bijections.{is_map_to, comes_before}
 use Rattle.relabelling.specs.Colours.{KeepsColours}
-
--- whether the list of images of the first comes before that of the second
-abbrev pub comes_before : List (ℕ × ℕ) → List (ℕ × ℕ) → Bool
-comes_before m n = is_lt (simplex_cmp (map (λ p. p.1) m) (map (λ p. p.1) n))
 
 -- the one of the two with the lesser list of images, of those that there are
 abbrev pub lesser : Option (List (ℕ × ℕ)) → Option (List (ℕ × ℕ)) → Option (List (ℕ × ℕ))

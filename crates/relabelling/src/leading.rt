@@ -5,10 +5,10 @@ ghost use Rattle.simplex.specs.Members.{In};
 ghost use Rattle.simplex.specs.Simplex.{is_label};
 ghost use Rattle.facet_set.specs.Connection.{is_closed, is_strong};
 ghost use Rattle.facet_set.specs.Maps.{image_of, relabelled};
-ghost use Rattle.relabelling.specs.Bijections.{first_map};
+ghost use Rattle.relabelling.specs.Bijections.{first_map, comes_before};
 ghost use Rattle.relabelling.specs.Colours.{colour};
 ghost use Rattle.relabelling.specs.Flags.{AreOrders};
-ghost use Rattle.relabelling.specs.Least.{Improves, IsBeaten, IsReady, comes_before, lesser, with_each};
+ghost use Rattle.relabelling.specs.Least.{Improves, IsBeaten, IsReady, lesser, with_each};
 ghost use Rattle.relabelling.specs.Walks.{AreWays};
 
 use crate::colours::{Colours, refine};

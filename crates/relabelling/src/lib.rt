@@ -4,11 +4,12 @@
 mod colours;
 mod extending;
 mod flags;
-pub mod laws;
+mod laws;
 mod leading;
 mod least;
 mod ridges;
 mod search;
 
 pub use extending::extend_map;
+pub use laws::{boundaries_are_carried, first_map_is_least, map_members, one_by_facet};
 pub use least::first_map;

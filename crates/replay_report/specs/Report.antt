@@ -5,7 +5,7 @@
 --     replay_text bytes    a line for each part, and a last one with the number of parts and of those accepted
 use Rattle.std.specs.Prelude.{ℕ, Bool, false, not, ◌||◌, List, [], ◌∷◌, ◌++◌, length, ◌==◌, nat_eq, slice_index_or, Option, Some, None, Result, Ok, Err, if◌then◌else◌, codes, decimal}
 use Rattle.std.specs.List.{flat_map, onto_first, starts_with, count_by, list_all}
-use Rattle.script_text.specs.Tokens.{is_text}
+use Rattle.plain_text.specs.Bytes.{is_text}
 use Rattle.flip_certificate.specs.Count.{flip_count}
 use Rattle.flip_certificate.specs.Lines.{kind_of, kind_text}
 use Rattle.flip_certificate.specs.Reading.{reading}

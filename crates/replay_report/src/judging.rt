@@ -7,7 +7,7 @@ ghost use Rattle.replay_report.specs.Report.{accepted_text, fault_text, judged, 
 
 use cert_replay::{ReplayFault, replay};
 use flip_certificate::{CertFault, Certificate, Kind, read};
-use script_text::put_number;
+use plain_text::put_number;
 use simplex::{Memory, Text};
 use std::alloc::Global;
 

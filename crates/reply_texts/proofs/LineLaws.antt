@@ -4,10 +4,10 @@ use Rattle.std.specs.Prelude.{ℤ, pos, negsuc, codes}
 use Rattle.std.specs.Fmt.{decimal, signed_decimal}
 use Rattle.simplex.specs.declared.flip.Flip.{Flip}
 use Rattle.simplex.proofs.InOrderLaws.{and_both}
-use Rattle.script_text.specs.Condition.{condition_name}
-use Rattle.script_text.specs.Printing.{facets_text, integers_text, simplex_text}
-use Rattle.script_text.specs.declared.condition.Condition.{Condition}
-use Rattle.script_text.specs.declared.condition.Condition.TheVariants as condition
+use Rattle.conditions.specs.Condition.{condition_name}
+use Rattle.plain_text.specs.Printing.{facets_text, integers_text, simplex_text}
+use Rattle.conditions.specs.declared.condition.Condition.{Condition}
+use Rattle.conditions.specs.declared.condition.Condition.TheVariants as condition
 use Rattle.flip_certificate.specs.Count.{flip_count}
 use Rattle.flip_certificate.specs.Lines.{kind_of, kind_text}
 use Rattle.flip_certificate.specs.declared.certificate.Certificate.{Certificate}

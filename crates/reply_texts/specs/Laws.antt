@@ -2,7 +2,7 @@
 use Rattle.std.specs.Prelude.{◌≡◌, ℕ, ℤ, Bool, not, List, ◌++◌, ◌==◌, IsTrue}
 use Rattle.std.specs.List.{list_all}
 use Rattle.simplex.specs.declared.flip.Flip.{Flip}
-use Rattle.script_text.specs.declared.condition.Condition.{Condition}
+use Rattle.conditions.specs.declared.condition.Condition.{Condition}
 use Rattle.flip_certificate.specs.Lines.{lines_of, text_of}
 use Rattle.flip_certificate.specs.declared.certificate.Certificate.{Certificate}
 use Rattle.reply_texts.specs.Replies.{line, refusal_text, facets_reply, faces_reply, ok_reply, number_reply, numbers_reply, yes_or_no, flips_reply, reduced_reply, undecided_reply, undecided_at_reply, yes_reply}

@@ -2,9 +2,9 @@
 use Rattle.std.specs.Prelude.{ℕ, ℤ, Bool, List, [], ◌∷◌, ◌++◌, map, length, codes, decimal, if◌then◌else◌}
 use Rattle.std.specs.Fmt.{signed_decimal}
 use Rattle.simplex.specs.declared.flip.Flip.{Flip}
-use Rattle.script_text.specs.Condition.{condition_name}
-use Rattle.script_text.specs.Printing.{bracketed_text, facets_text, integers_text, simplex_text}
-use Rattle.script_text.specs.declared.condition.Condition.{Condition}
+use Rattle.conditions.specs.Condition.{condition_name}
+use Rattle.plain_text.specs.Printing.{bracketed_text, facets_text, integers_text, simplex_text}
+use Rattle.conditions.specs.declared.condition.Condition.{Condition}
 use Rattle.flip_certificate.specs.Count.{flip_count}
 use Rattle.flip_certificate.specs.Lines.{kind_of, kind_text, lines_of, text_of}
 use Rattle.flip_certificate.specs.declared.certificate.Certificate.{Certificate}

@@ -2,7 +2,7 @@ ghost use Rattle.std.specs.Prelude.{◌≡◌, map, pos, IfOk};
 ghost use Rattle.reply_texts.specs.Replies.{faces_reply, facets_reply, number_reply, numbers_reply, yes_or_no};
 
 use facet_set::Facets;
-use script_text::{put_facets, put_list, put_number};
+use plain_text::{put_facets, put_list, put_number};
 use simplex::{Memory, Simplex, Text};
 use std::alloc::Global;
 

@@ -2,7 +2,7 @@ ghost use Rattle.std.specs.Prelude.{◌≡◌, IfOk};
 ghost use Rattle.reply_texts.specs.Replies.{ok_reply, reduced_reply};
 
 use facet_set::Facets;
-use script_text::put_number;
+use plain_text::put_number;
 use simplex::{Flip, Memory, Text};
 use std::alloc::Global;
 

@@ -2,7 +2,7 @@ ghost use Rattle.std.specs.Prelude.{◌≡◌, ◌++◌, map, IfOk, OnOk};
 ghost use Rattle.std.specs.List.{join_with_byte};
 ghost use Rattle.reply_texts.specs.Replies.{flip_text, flips_reply};
 
-use script_text::put_list;
+use plain_text::put_list;
 use simplex::{Flip, Memory, Text};
 use std::alloc::Global;
 

@@ -1,7 +1,7 @@
 ghost use Rattle.std.specs.Prelude.{◌≡◌, IfOk};
 ghost use Rattle.reply_texts.specs.Replies.{refusal_text};
 
-use script_text::Condition;
+use conditions::Condition;
 use simplex::{Memory, Text};
 use std::alloc::Global;
 

@@ -3,7 +3,7 @@ ghost use Rattle.flip_certificate.specs.Lines.{is_shaped};
 ghost use Rattle.reply_texts.specs.Replies.{undecided_at_reply, undecided_reply, yes_reply};
 
 use flip_certificate::{Certificate, flip_count, write};
-use script_text::put_number;
+use plain_text::put_number;
 use simplex::{Memory, Text};
 use std::alloc::Global;
 

@@ -1,6 +1,6 @@
 -- What the calls of sources and sinks do to the bytes that they tell and to their counts of faults.
 -- The bytes are an `Option`: `None` is an end that does not tell them.
-use Rattle.std.specs.Prelude.{◌≡◌, ℕ, ◌+◌, ◌<◌, ◌≤◌, List, [], ◌++◌, length, take, Option, None, Some, Result, IfOk, OnErr, IsErrOf, MatchResult}
+use Rattle.std.specs.Prelude.{◌≡◌, ◌≢◌, ℕ, ◌+◌, ◌<◌, ◌≤◌, List, [], ◌++◌, length, take, Option, None, Some, Result, Err, IfOk, OnOk, OnErr, IsErrOf, MatchResult}
 use Rattle.run_ends.specs.declared.ends.SinkFault.{SinkFault}
 use Rattle.run_ends.specs.declared.ends.SinkFault.TheVariants.{Failed}
 pub use Rattle.run_ends.specs.Counts.{Rose, last_count}
@@ -49,12 +49,15 @@ abbrev pub WritesBytes : {E : Type 0} → Option (List ℕ) → Option (List ℕ
     → Type 0
 WritesBytes old new r bytes = MatchResult r (λ n. Grows old new (take n bytes)) (λ _. Stays old new)
 
--- a count of faults never falls, and a call fails only where it rose
+-- a count of faults never falls, a call fails only where it rose, and one that does not fail leaves
+-- it as it was: no fault is passed over
 pub record HasCause {T E : Type 0} (before now : ℕ) (result : Result T E) : Type 0 where
   pub later : before ≤ now
   pub failed : OnErr result (Rose before now)
+  pub told : OnOk result (now ≡ before)
 
--- the same of a write, which may also want memory
+-- the same of a write, which may also want memory: that is no fault
 pub record HasSinkCause {T : Type 0} (before now : ℕ) (result : Result T SinkFault) : Type 0 where
   pub later : before ≤ now
   pub failed : IsErrOf result Failed → Rose before now
+  pub told : result ≢ Err Failed → now ≡ before

@@ -36,7 +36,8 @@ pub trait Source {
     /// How many bytes were taken.
     ghost taken: { Self → ℕ };
 
-    /// How often a read failed. The count never falls, and stops at the last value of a u64.
+    /// How often a read failed. The count never falls, and stops at the last value of a u64. A read that does not fail
+    /// leaves it as it was.
     ghost faults: { Self → ℕ };
 
     /// Puts the next bytes at the front of the buffer, and says how many.
@@ -57,7 +58,7 @@ pub trait Sink {
     ghost finished: { Self → Bool };
 
     /// How often a write or a finish failed. The count never falls, and stops at the last value
-    /// of a u64.
+    /// of a u64. A write or a finish that does not fail leaves it as it was.
     ghost faults: { Self → ℕ };
 
     /// Appends the first bytes of the piece, at least one of a nonempty piece, and says how many.

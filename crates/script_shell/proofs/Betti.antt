@@ -9,7 +9,7 @@ use Rattle.gf2_rank.specs.Matrix.{side_limit}
 use Rattle.betti_tables.specs.Limits.{limit_test, limit_fault}
 use Rattle.betti_tables.specs.declared.betti_fault.BettiFault.{BettiFault}
 use Rattle.betti_tables.specs.declared.betti_fault.BettiFault.TheVariants as fault
-use Rattle.script_text.specs.declared.condition.Condition.TheVariants as condition
+use Rattle.conditions.specs.declared.condition.Condition.TheVariants as condition
 use Rattle.shell_names.specs.State.{Complex}
 use Rattle.script_shell.specs.Stops.{StopsAt, betti_stop}
 

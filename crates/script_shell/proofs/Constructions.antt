@@ -6,8 +6,8 @@ use Rattle.simplex.specs.FirstFailing.{first_failing}
 use Rattle.facet_set.specs.Numbers.{weight}
 use Rattle.constructions.specs.declared.make_fault.MakeFault.{MakeFault}
 use Rattle.constructions.specs.declared.make_fault.MakeFault.TheVariants as make
-use Rattle.script_text.specs.declared.condition.Condition.{Condition}
-use Rattle.script_text.specs.declared.condition.Condition.TheVariants as condition
+use Rattle.conditions.specs.declared.condition.Condition.{Condition}
+use Rattle.conditions.specs.declared.condition.Condition.TheVariants as condition
 use Rattle.shell_names.specs.State.{State, Complex, named, present, assign, total_weight}
 use Rattle.shell_names.proofs.StateLaws.{weight_put, weight_entry}
 use Rattle.script_shell.specs.declared.limits.Limits.{Limits}

@@ -1,8 +1,13 @@
+pub mod BenchLaws
+pub mod BenchReading
+pub mod BenchStack
 pub mod Betti
 pub mod Constructions
 pub mod Cutting
 pub mod FaceCounts
 pub mod FormLaws
+pub mod Holding
+pub mod InVain
 pub mod Listing
 pub mod Makers
 pub mod Options

@@ -7,7 +7,7 @@ use Rattle.simplex.specs.SimplexFault.{set}
 use Rattle.simplex.specs.declared.flip.Flip.{Flip}
 use Rattle.flip_rules.specs.Tests.{flip_tests}
 use Rattle.flip_rules.specs.declared.flip_fault.FlipFault.{FlipFault}
-use Rattle.script_text.specs.declared.condition.Condition.TheVariants as condition
+use Rattle.conditions.specs.declared.condition.Condition.TheVariants as condition
 use Rattle.shell_names.specs.State.{State, Complex, holds}
 use Rattle.script_shell.specs.declared.stop.Stop.{Stop}
 use Rattle.script_shell.specs.declared.stop.Stop.TheVariants as stop

@@ -16,7 +16,7 @@ use Rattle.facet_set.specs.Maps.{is_distinct}
 use Rattle.facet_set.proofs.ComplexLaws.{same_from}
 use Rattle.facet_set.proofs.SetLaws.{in_set}
 use Rattle.constructions.specs.Relabelling.{is_renaming, relabel_tests}
-use Rattle.script_text.specs.declared.condition.Condition.TheVariants as condition
+use Rattle.conditions.specs.declared.condition.Condition.TheVariants as condition
 use Rattle.script_shell.specs.Commands.{is_pair, make_tests, pair_of}
 use Rattle.script_shell.specs.Relabelling.{map_tests}
 use Rattle.script_shell.specs.Saturated.{saturated}

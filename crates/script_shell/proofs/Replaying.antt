@@ -15,7 +15,7 @@ use Rattle.script_text.specs.declared.command.Question.{Question}
 use Rattle.script_text.specs.declared.command.Question.TheVariants as question
 use Rattle.script_text.specs.declared.command.Edit.{Edit}
 use Rattle.script_text.specs.declared.command.Edit.TheVariants as edit
-use Rattle.script_text.specs.declared.condition.Condition.{Condition}
+use Rattle.conditions.specs.declared.condition.Condition.{Condition}
 use Rattle.simplex.specs.SimplexFault.{set}
 use Rattle.facet_set.specs.Complex.{generated}
 use Rattle.facet_set.specs.Connection.{components, is_closed, is_strong}

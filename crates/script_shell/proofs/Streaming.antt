@@ -1,5 +1,5 @@
 -- Two steps of a stream are one.
-use Rattle.std.proofs.Common.{◌≡◌, ℕ, ◌+◌, ◌≤◌, inl, inr, List, ◌++◌, length, take, drop, Option, sym, ap, ◌∙◌, arith, length-append}
+use Rattle.std.proofs.Common.{◌≡◌, ℕ, ◌+◌, ◌≤◌, inl, inr, List, ◌++◌, length, take, drop, Option, Result, Ok, Err, sym, ap, ◌∙◌, arith, length-append}
 use Rattle.std.proofs.lemmas.List.{take-take}
 use Rattle.std.proofs.Math.Seq.{take-add}
 use Rattle.run_ends.specs.Counts.{Rose}
@@ -19,3 +19,7 @@ rose_before a b c h (inr e) = inr e
 -- what was given before, and what was given then
 pub gave_after : (a b c : Option (List ℕ)) (xs : List ℕ) (m n k : ℕ) → Loses a b xs → n ≡ m + length xs → ((bytes : List ℕ) × Gave b c n k bytes) → (bytes : List ℕ) × Gave a c m k bytes
 gave_after a b c xs m n k h e g = (xs ++ g.0, record { lost = loses_twice a b c xs g.0 h g.1.lost; count = omega (arith, g.1.count, e, length-append xs g.0) })
+
+-- an answer is no error
+pub ok_no_err : {T E : Type 0} (x : T) (e : E) → ◌≡◌ {A = Result T E} (Ok x) (Err e) → ⊥
+ok_no_err x e h = cc

@@ -1,11 +1,12 @@
 -- The faults of verdicts as conditions, behind the tests of their names.
-use Rattle.std.proofs.Common.{◌≡◌, ℕ, ◌⊎◌, inl, inr, Bool, true, List, ◌∷◌, Option, Some, None, Result, sym, ap, subst, ◌∙◌}
-use Rattle.std.specs.Prelude.{OnOk, IfErr}
+use Rattle.std.proofs.Common.{◌≡◌, ℕ, ◌⊎◌, inl, inr, Bool, true, List, ◌∷◌, Option, Some, None, Result, Ok, Err, is_ok, sym, ap, subst, ◌∙◌}
+use Rattle.std.specs.Prelude.{OnOk, IfOk, IfErr}
 use Rattle.std.specs.Option.{option_map}
 use Rattle.simplex.specs.FirstFailing.{first_failing}
+use Rattle.verdicts.specs.declared.verdict.Verdict.{Verdict}
 use Rattle.verdicts.specs.declared.verdict_fault.VerdictFault.{VerdictFault}
 use Rattle.verdicts.specs.declared.verdict_fault.VerdictFault.TheVariants as unfit
-use Rattle.script_text.specs.declared.condition.Condition.{Condition}
+use Rattle.conditions.specs.declared.condition.Condition.{Condition}
 use Rattle.shell_names.specs.State.{State, Complex, holds, present}
 use Rattle.script_shell.specs.declared.stop.Stop.{Stop}
 use Rattle.script_shell.specs.Commands.{Test, name_test, verdict_condition, verdict_tests}
@@ -52,3 +53,8 @@ module _ (r : Result (List ℕ) Stop) (us vs : List Test) (same : first_failing 
 
   pub stops_as : IfErr r (λ f. StopsAt f (first_failing us)) → IfErr r (λ f. StopsAt f (first_failing vs))
   stops_as h = if_err r _ _ (λ f k. subst (λ (o : Option Condition). StopsAt f o) (sym same) k) h
+
+-- what holds of the verdict that was given
+pub verdict_at : (r : Result Verdict VerdictFault) (v : Verdict) (P : Verdict → Type 0) → is_ok r ≡ true → IfOk r (λ w. w ≡ v) → IfOk r P → P v
+verdict_at (Ok w) v P h e p = subst P e p
+verdict_at (Err f) v P h e p = cc

@@ -40,8 +40,8 @@ use Rattle.script_text.specs.declared.command.Question.{Question}
 use Rattle.script_text.specs.declared.command.Question.TheVariants as question
 use Rattle.script_text.specs.declared.command.Edit.{Edit}
 use Rattle.script_text.specs.declared.command.Edit.TheVariants as edit
-use Rattle.script_text.specs.declared.condition.Condition.{Condition}
-use Rattle.script_text.specs.declared.condition.Condition.TheVariants as condition
+use Rattle.conditions.specs.declared.condition.Condition.{Condition}
+use Rattle.conditions.specs.declared.condition.Condition.TheVariants as condition
 use Rattle.reply_texts.specs.Replies.{faces_reply, facets_reply, flips_reply, number_reply, numbers_reply, ok_reply, reduced_reply, refusal_text, undecided_at_reply, undecided_reply, yes_or_no, yes_reply}
 use Rattle.verdicts.specs.Tests.{equivalent_tests, manifold_tests, sphere_tests}
 use Rattle.verdicts.specs.Verdicts.{equivalent_of, manifold_of, sphere_of}

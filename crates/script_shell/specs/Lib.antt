@@ -2,6 +2,7 @@ pub mod Bench
 pub mod Commands
 pub mod Edits
 pub mod Exits
+pub mod InVain
 pub mod Laws
 pub mod Limits
 pub mod Output

@@ -1,8 +1,7 @@
 -- The forms of the command line, and the whole output of the program.
 use Rattle.std.specs.Prelude.{ℕ, Bool, true, false, List, [], ◌∷◌, Option, Some, None, if◌then◌else◌, codes}
-use Rattle.script_text.specs.Tokens.{is_text}
+use Rattle.plain_text.specs.Bytes.{is_text, number_of}
 use Rattle.replay_report.specs.Report.{replay_text, refuses_part}
-use Rattle.script_text.specs.Bytes.{number_of}
 use Rattle.script_shell.specs.Bench.{bench_text, is_within}
 use Rattle.script_shell.specs.Transcript.{transcript, is_refusing}
 use Rattle.script_shell.specs.declared.words.Form.{Form}

@@ -3,7 +3,7 @@ use Rattle.std.specs.Prelude.{ℕ, ◌&&◌, List, [], ◌∷◌, map}
 use Rattle.std.specs.List.{list_all}
 use Rattle.simplex.specs.Simplex.{is_label}
 use Rattle.constructions.specs.Relabelling.{is_renaming}
-use Rattle.script_text.specs.declared.condition.Condition.TheVariants as condition
+use Rattle.conditions.specs.declared.condition.Condition.TheVariants as condition
 use Rattle.shell_names.specs.State.{Complex}
 use Rattle.script_shell.specs.Commands.{Test, is_pair, pair_of}
 

@@ -4,7 +4,7 @@ use Rattle.script_text.specs.Reading.{command_of}
 use Rattle.script_text.specs.Tokens.{is_blank}
 use Rattle.script_text.specs.declared.command.Command.{Command}
 use Rattle.script_text.specs.declared.command.Command.TheVariants as command
-use Rattle.script_text.specs.declared.condition.Condition.{Condition}
+use Rattle.conditions.specs.declared.condition.Condition.{Condition}
 use Rattle.shell_names.specs.State.{State, present}
 use Rattle.flip_certificate.specs.Lines.{lines_of, text_of}
 use Rattle.flip_certificate.specs.declared.certificate.Certificate.{Certificate}
@@ -13,6 +13,7 @@ use Rattle.verdicts.specs.Sound.{IsSound}
 use Rattle.verdicts.specs.Verdicts.{equivalent_of, manifold_of, sphere_of}
 use Rattle.verdicts.specs.declared.verdict.Verdict.{Verdict}
 use Rattle.verdicts.specs.declared.verdict.Verdict.TheVariants.{Yes, Undecided, UndecidedAt}
+use Rattle.script_shell.specs.Bench.{bench_script}
 use Rattle.script_shell.specs.Commands.{failed}
 use Rattle.script_shell.specs.Limits.{standard}
 use Rattle.script_shell.specs.Output.{form_of}
@@ -73,11 +74,11 @@ pub record Replays (bytes : List ℕ) : Type 0 where
   pub sound : AreSound (certificates bytes)
   pub accepted : refuses_part (transcript bytes) ≡ false
 
--- what these words have written replays, where it is a transcript
+-- what these words have written replays, where it is a transcript; that of a bench is inside it
 abbrev pub FormReplays : Form → List ℕ → Type 0
 FormReplays form.Run bytes = Replays bytes
 FormReplays form.Replay bytes = Unit {0}
-FormReplays (form.Bench d n seed) bytes = Unit {0}
+FormReplays (form.Bench d n seed) bytes = Replays (bench_script d n seed)
 FormReplays form.NoForm bytes = Unit {0}
 
 abbrev pub OutputReplays : List (List ℕ) → List ℕ → Type 0

@@ -1,6 +1,6 @@
 -- What contracts see of a reply.
 use Rattle.std.specs.Prelude.{ℕ, List, Option}
-use Rattle.script_text.specs.declared.condition.Condition.{Condition}
+use Rattle.conditions.specs.declared.condition.Condition.{Condition}
 
 -- its text, and the condition that refused the command, if one did
 pub record Answer : Type 0 where

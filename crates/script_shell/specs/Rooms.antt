@@ -4,7 +4,7 @@ use Rattle.std.specs.List.{flat_map}
 use Rattle.facet_set.specs.Numbers.{weight}
 use Rattle.script_text.specs.declared.command.Maker.{Maker}
 use Rattle.script_text.specs.declared.command.Maker.TheVariants as maker
-use Rattle.script_text.specs.declared.condition.Condition.TheVariants as condition
+use Rattle.conditions.specs.declared.condition.Condition.TheVariants as condition
 use Rattle.shell_names.specs.State.{State, Complex, present, total_weight}
 use Rattle.script_shell.specs.declared.limits.Limits.{Limits}
 use Rattle.script_shell.specs.Commands.{Making, Test, list_tests}

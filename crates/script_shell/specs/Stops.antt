@@ -6,8 +6,8 @@ use Rattle.constructions.specs.declared.make_fault.MakeFault.{MakeFault}
 use Rattle.constructions.specs.declared.make_fault.MakeFault.TheVariants as make
 use Rattle.local_parts.specs.declared.part_fault.PartFault.{PartFault}
 use Rattle.local_parts.specs.declared.part_fault.PartFault.TheVariants as fault
-use Rattle.script_text.specs.declared.condition.Condition.{Condition}
-use Rattle.script_text.specs.declared.condition.Condition.TheVariants as condition
+use Rattle.conditions.specs.declared.condition.Condition.{Condition}
+use Rattle.conditions.specs.declared.condition.Condition.TheVariants as condition
 use Rattle.verdicts.specs.declared.verdict_fault.VerdictFault.{VerdictFault}
 use Rattle.verdicts.specs.declared.verdict_fault.VerdictFault.TheVariants as unfit
 use Rattle.script_shell.specs.declared.stop.Stop.{Stop}

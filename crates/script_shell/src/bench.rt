@@ -2,6 +2,8 @@
 ghost use Rattle.std.specs.Prelude.{◌≡◌, ◌<◌, ◌≤◌, ◌+◌, ◌*◌, ◌^◌, ◌++◌, [], if◌then◌else◌, IfOk, OnOk};
 ghost use Rattle.replay_report.specs.Report.{first_line};
 ghost use Rattle.script_shell.specs.Bench.{bench_line, bench_script, bench_text, is_reply_line, is_within, most_facets, reply_lines, three_numbers, two_numbers};
+ghost use Rattle.script_shell.specs.InVain.{ScriptInVain};
+ghost use Rattle.script_shell.specs.Replays.{Replays};
 
 use crate::transcript::transcript;
 use facet_set::WEIGHT_LIMIT;
@@ -41,7 +43,9 @@ fn most_facets(d: u64, n: u64) -> u64
 /// What the run writes: its numbers, the replies and the verdict on the certificate. The text is own.
 #[tactic(auto, unfolding(crate::specs::Bench::bench_text))]
 pub fn bench(alloc: Global, d: u64, n: u64, seed: u64) -> Result<Text, Memory>
-    ensures { IfOk result (λ text. text ≡ bench_text d n seed) }
+    ensures text { IfOk result (λ text. text ≡ bench_text d n seed) }
+    ensures replays { OnOk result (Replays (bench_script d n seed)) }
+    ensures in_vain { OnOk result (ScriptInVain (bench_script d n seed)) }
 {
     let script = bench_script(alloc, d, n, seed)?;
     let answers = transcript(alloc, script.as_slice())?;

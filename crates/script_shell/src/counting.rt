@@ -30,7 +30,7 @@ pub fn counts(alloc: Global, complex: &Facets) -> Result<Counts, Memory>
 
 // The same by the lattice of the complex.
 fn counts_by(lattice: &Lattice, complex: &Facets) -> Counts
-    requires same { lattice.now ≡ complex.now }
+    requires same { lattice.now.facets ≡ complex.now }
     requires weight { weight complex.now ≤ weight_limit }
     ensures numbers { numbers result ≡ f_vector complex.now }
     ensures limits { IsWithinLimits result }
@@ -59,9 +59,9 @@ fn betti_by<L: Ledger>(alloc: Global, lattice: &Lattice, blank: Blank) -> Result
     requires name { blank.name ≡ L.name }
     requires parts { blank.parts ≡ L.parts }
     requires some { 0 < L.parts }
-    ensures value { IfOk result (λ b. map pos (betti_numbers b) ≡ betti_vector lattice.now) }
-    ensures limit { OnOk result (limit_fault lattice.now ≡ None) }
-    ensures faults { IfErr result (λ e. (e ≡ fault.Memory) ⊎ (limit_fault lattice.now ≡ Some e)) }
+    ensures value { IfOk result (λ b. map pos (betti_numbers b) ≡ betti_vector lattice.now.facets) }
+    ensures limit { OnOk result (limit_fault lattice.now.facets ≡ None) }
+    ensures faults { IfErr result (λ e. (e ≡ fault.Memory) ⊎ (limit_fault lattice.now.facets ≡ Some e)) }
 {
     let mut steps = Steps::<L>::open(blank);
     RankTable::new().betti(alloc, lattice, &mut steps)

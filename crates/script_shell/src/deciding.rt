@@ -1,8 +1,8 @@
 // What the verdicts on named complexes come to, where no condition refuses them.
-ghost use Rattle.std.specs.Prelude.{◌≡◌, ◌⊎◌, Bool, List, None, Some, IfOk, OnOk, IfErr};
+ghost use Rattle.std.specs.Prelude.{◌≡◌, ◌⊎◌, Bool, List, None, Some, IfOk, OnOk, IfErr, IsTrue, is_ok};
 ghost use Rattle.simplex.specs.FirstFailing.{first_failing};
 ghost use Rattle.shell_names.specs.State.{present};
-ghost use Rattle.verdicts.specs.Sound.{YesIsSound};
+ghost use Rattle.verdicts.specs.Sound.{CountedInVain, UndecidedInVain, YesIsSound};
 ghost use Rattle.verdicts.specs.Verdicts.{equivalent_of, manifold_of, sphere_of};
 ghost use Rattle.verdicts.specs.declared.verdict.Verdict.{Verdict};
 ghost use Rattle.verdicts.specs.declared.verdict_fault.VerdictFault.{VerdictFault};
@@ -31,6 +31,8 @@ pub fn sphere(
     ensures text { IfOk result (λ text. text ≡ (sphere names.now name.now budget seed).reply) }
     ensures refused { IfErr result (λ stop. StopsAt stop (first_failing (sphere names.now name.now budget seed).tests)) }
     ensures sound { OnOk result (AreSound (certificate_of (sphere_of (present names.now name.now) budget seed))) }
+    ensures vain { OnOk result (UndecidedInVain (present names.now name.now) budget seed
+        (sphere_of (present names.now name.now) budget seed)) }
 {
     let Some(complex) = names.present(name) else {
         return Err(Stop::Refused(Condition::NoName));
@@ -51,6 +53,8 @@ pub fn equivalent(
     ensures text { IfOk result (λ text. text ≡ (equivalent names.now left.now right.now budget seed).reply) }
     ensures refused { IfErr result (λ stop. StopsAt stop (first_failing (equivalent names.now left.now right.now budget seed).tests)) }
     ensures sound { OnOk result (AreSound (certificate_of (equivalent_of (present names.now left.now) (present names.now right.now) budget seed))) }
+    ensures vain { OnOk result (CountedInVain (present names.now left.now) (present names.now right.now) budget seed
+        (equivalent_of (present names.now left.now) (present names.now right.now) budget seed)) }
 {
     let Some(start) = names.present(left) else {
         return Err(Stop::Refused(Condition::NoName));
@@ -76,6 +80,8 @@ pub fn manifold(
     ensures text { IfOk result (λ text. text ≡ (manifold names.now name.now budget seed).reply) }
     ensures refused { IfErr result (λ stop. StopsAt stop (first_failing (manifold names.now name.now budget seed).tests)) }
     ensures sound { OnOk result (AreSound (certificate_of (manifold_of (present names.now name.now) budget seed))) }
+    ensures vain { OnOk result (UndecidedInVain (present names.now name.now) budget seed
+        (manifold_of (present names.now name.now) budget seed)) }
 {
     let Some(complex) = names.present(name) else {
         return Err(Stop::Refused(Condition::NoName));
@@ -90,6 +96,7 @@ fn decided(alloc: Global, verdict: Result<Verdict, VerdictFault>) -> Result<Text
     ensures text { (v : Verdict) → IfOk verdict (λ w. w ≡ v) → IfOk result (λ text. text ≡ verdict_reply v) }
     ensures refused { (ts : List (Bool × VerdictFault)) → IfErr verdict (λ e. (e ≡ fault.Memory) ⊎ (first_failing ts ≡ Some e)) → IfErr result (λ stop. StopsAt stop (first_failing (verdict_tests ts))) }
     ensures sound { (v : Verdict) → IfOk verdict (λ w. w ≡ v) → OnOk result (YesIsSound v) }
+    ensures given { OnOk result (IsTrue (is_ok verdict)) }
 {
     let verdict = verdict?;
     Ok(reply(alloc, &verdict)?)

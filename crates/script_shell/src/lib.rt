@@ -27,7 +27,7 @@ mod transcript;
 mod words;
 
 pub use exit::Exit;
-pub use laws::sound_transcripts_replay;
+pub use laws::{bench_refuses_nothing, sound_transcripts_replay};
 pub use limits::Limits;
 pub use reply::Reply;
 pub use run::{run_program, run_surely};

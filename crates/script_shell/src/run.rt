@@ -4,9 +4,10 @@ ghost use Rattle.run_ends.specs.Counts.{Rose};
 ghost use Rattle.run_ends.specs.Ends.{AtEnd, Grows};
 ghost use Rattle.script_shell.specs.Exits.{IsOneOf};
 ghost use Rattle.replay_report.specs.Report.{replay_text, refuses_part};
-ghost use Rattle.script_shell.specs.Bench.{bench_text};
+ghost use Rattle.script_shell.specs.Bench.{bench_script, bench_text};
+ghost use Rattle.script_shell.specs.InVain.{FormInVain, OutputInVain, ScriptInVain};
 ghost use Rattle.script_shell.specs.Output.{form_output, form_refuses, has_form, is_form, reads_input, output, refusing, usage_text};
-ghost use Rattle.script_shell.specs.Replays.{FormReplays, OutputReplays};
+ghost use Rattle.script_shell.specs.Replays.{FormReplays, OutputReplays, Replays};
 ghost use Rattle.script_shell.specs.Streams.{GrowsByFront, Gave, input_limit};
 
 use crate::bench::bench;
@@ -43,8 +44,20 @@ pub fn run_program<S: Source, K: Sink>(
         refusing (map string_bytes words.now) bytes ≡ true) }
     ensures replays { IsOneOf result (Exit.Done ∷ Exit.Refused ∷ []) → IfSome (S.left source.old) (λ bytes.
         OutputReplays (map string_bytes words.now) bytes) }
+    ensures in_vain { IsOneOf result (Exit.Done ∷ Exit.Refused ∷ []) → IfSome (S.left source.old) (λ bytes.
+        OutputInVain (map string_bytes words.now) bytes) }
     ensures at_end { reads_input (map string_bytes words.now) ≡ true
         → IsOneOf result (Exit.Done ∷ Exit.Refused ∷ []) → AtEnd (S.left source.new) }
+
+    // Words of a form that reads no input have one output, whatever the source tells, and in it nothing is refused.
+    ensures bench { has_form (map string_bytes words.now) ≡ true → reads_input (map string_bytes words.now) ≡ false
+        → IsOneOf result (Exit.Done ∷ Exit.Memory ∷ Exit.WriteFault ∷ []) }
+    ensures bench_done { reads_input (map string_bytes words.now) ≡ false → result ≡ Exit.Done
+        → Grows (K.written sink.old) (K.written sink.new) (output (map string_bytes words.now) []) }
+    ensures bench_replays { reads_input (map string_bytes words.now) ≡ false → result ≡ Exit.Done
+        → OutputReplays (map string_bytes words.now) [] }
+    ensures bench_in_vain { reads_input (map string_bytes words.now) ≡ false → result ≡ Exit.Done
+        → OutputInVain (map string_bytes words.now) [] }
 
     // The sink is finished at Done, Refused and Usage, and at no other end.
     ensures finished { IsOneOf result (Exit.Done ∷ Exit.Refused ∷ Exit.Usage ∷ [])
@@ -70,6 +83,8 @@ pub fn run_program<S: Source, K: Sink>(
         × Gave (S.left source.old) (S.left source.new) (S.taken source.old) (S.taken source.new) bytes }
     ensures read_fault { result ≡ Exit.ReadFault → Rose (S.faults source.old) (S.faults source.new) }
     ensures write_fault { result ≡ Exit.WriteFault → Rose (K.faults sink.old) (K.faults sink.new) }
+    ensures read_told { S.faults source.old < S.faults source.new → result ≡ Exit.ReadFault }
+    ensures write_told { K.faults sink.old < K.faults sink.new → result ≡ Exit.WriteFault }
     ensures too_long { (result ≡ Exit.TooLong) ↔ (S.taken source.old + input_limit < S.taken source.new) }
     ensures one_more { S.taken source.new ≤ S.taken source.old + input_limit + 1 }
 
@@ -113,8 +128,23 @@ pub fn run_surely(
         → length source.old.left ≤ input_limit → IsOneOf result (Exit.Done ∷ Exit.Refused ∷ Exit.Memory ∷ []) }
     ensures output { IsOneOf result (Exit.Done ∷ Exit.Refused ∷ [])
         → sink.new.written ≡ sink.old.written ++ output (map string_bytes words.now) source.old.left }
+    ensures done { result ≡ Exit.Done → refusing (map string_bytes words.now) source.old.left ≡ false }
+    ensures refused { result ≡ Exit.Refused → refusing (map string_bytes words.now) source.old.left ≡ true }
+    ensures replays { IsOneOf result (Exit.Done ∷ Exit.Refused ∷ [])
+        → OutputReplays (map string_bytes words.now) source.old.left }
+    ensures in_vain { IsOneOf result (Exit.Done ∷ Exit.Refused ∷ [])
+        → OutputInVain (map string_bytes words.now) source.old.left }
+    ensures at_end { reads_input (map string_bytes words.now) ≡ true
+        → IsOneOf result (Exit.Done ∷ Exit.Refused ∷ []) → source.new.left ≡ [] }
+    ensures finished { IsOneOf result (Exit.Done ∷ Exit.Refused ∷ Exit.Usage ∷ []) → sink.new.finished ≡ true }
+
+    // Usage comes for words of no form alone, TooLong for an input above the limit alone, and no fault comes.
+    ensures usage { result ≡ Exit.Usage → sink.new.written ≡ sink.old.written ++ usage_text }
+    ensures no_form { result ≡ Exit.Usage → has_form (map string_bytes words.now) ≡ false }
     ensures usage_complete { has_form (map string_bytes words.now) ≡ false
         → IsOneOf result (Exit.Usage ∷ Exit.Memory ∷ []) }
+    ensures too_long { result ≡ Exit.TooLong → input_limit < length source.old.left }
+    ensures ends { IsOneOf result (Exit.Done ∷ Exit.Refused ∷ Exit.Usage ∷ Exit.Memory ∷ Exit.TooLong ∷ []) }
 {
     run_program(alloc, words, source, sink)
 }
@@ -128,12 +158,14 @@ fn write_output<K: Sink>(alloc: Global, form: Form, bytes: &[u8], sink: &mut K) 
     ensures done { result ≡ Exit.Done → form_refuses form bytes.now ≡ false }
     ensures refused { result ≡ Exit.Refused → form_refuses form bytes.now ≡ true }
     ensures replays { IsOneOf result (Exit.Done ∷ Exit.Refused ∷ []) → FormReplays form bytes.now }
+    ensures in_vain { IsOneOf result (Exit.Done ∷ Exit.Refused ∷ []) → FormInVain form bytes.now }
     ensures finished { IsOneOf result (Exit.Done ∷ Exit.Refused ∷ Exit.Usage ∷ [])
         → K.finished sink.new ≡ true }
     ensures unfinished { IsOneOf result (Exit.Memory ∷ Exit.ReadFault ∷ Exit.WriteFault ∷ Exit.TooLong ∷ [])
         → K.finished sink.new ≡ false }
     ensures front { GrowsByFront (K.written sink.old) (K.written sink.new) (form_output form bytes.now) }
     ensures write_fault { result ≡ Exit.WriteFault → Rose (K.faults sink.old) (K.faults sink.new) }
+    ensures write_told { K.faults sink.old < K.faults sink.new → result ≡ Exit.WriteFault }
     ensures complete { ¬ Rose (K.faults sink.old) (K.faults sink.new) → IsOneOf result (Exit.Done ∷ Exit.Refused ∷ Exit.Memory ∷ []) }
 {
     let Ok(answers) = answers_to(alloc, form, bytes) else {
@@ -153,6 +185,7 @@ fn answers_to(alloc: Global, form: Form, bytes: &[u8]) -> Result<Answers, Memory
     ensures text { IfOk result (λ a. a.text ≡ form_output form bytes.now) }
     ensures refusing { IfOk result (λ a. a.refusing ≡ form_refuses form bytes.now) }
     ensures replays { OnOk result (FormReplays form bytes.now) }
+    ensures in_vain { OnOk result (FormInVain form bytes.now) }
 {
     match form {
         Form::Run => transcript(alloc, bytes),
@@ -178,6 +211,8 @@ fn replayed(alloc: Global, bytes: &[u8]) -> Result<Answers, Memory>
 fn benched(alloc: Global, d: u64, n: u64, seed: u64) -> Result<Answers, Memory>
     ensures text { IfOk result (λ a. a.text ≡ bench_text d n seed) }
     ensures refusing { IfOk result (λ a. a.refusing ≡ false) }
+    ensures replays { OnOk result (Replays (bench_script d n seed)) }
+    ensures in_vain { OnOk result (ScriptInVain (bench_script d n seed)) }
 {
     Ok(Answers {
         text: bench(alloc, d, n, seed)?,
@@ -198,6 +233,7 @@ fn write_usage<K: Sink>(sink: &mut K) -> Exit
         → K.finished sink.new ≡ false }
     ensures front { GrowsByFront (K.written sink.old) (K.written sink.new) usage_text }
     ensures write_fault { result ≡ Exit.WriteFault → Rose (K.faults sink.old) (K.faults sink.new) }
+    ensures write_told { K.faults sink.old < K.faults sink.new → result ≡ Exit.WriteFault }
     ensures complete { ¬ Rose (K.faults sink.old) (K.faults sink.new) → IsOneOf result (Exit.Usage ∷ Exit.Memory ∷ []) }
 {
     match send(sink, USAGE) {

@@ -6,7 +6,8 @@ ghost use Rattle.facet_set.specs.Complex.{generated};
 ghost use Rattle.reply_texts.specs.Replies.{facets_reply};
 ghost use Rattle.shell_names.specs.State.{holds, entry, present};
 ghost use Rattle.script_shell.specs.Commands.{meaning, failed, state_after, reply_to, list_tests};
-ghost use Rattle.script_shell.specs.Limits.{IsWithinStandard};
+ghost use Rattle.script_shell.specs.InVain.{ReplyInVain, VerdictInVain};
+ghost use Rattle.script_shell.specs.Limits.{IsWithin, IsWithinStandard};
 ghost use Rattle.script_shell.specs.Replays.{AreSound, certificate_for, certificate_to};
 ghost use Rattle.script_shell.specs.Stops.{StopsAt};
 
@@ -34,7 +35,7 @@ pub struct Shell {
 }
 
 impl Model for Shell {
-    ghost use Rattle.script_shell.specs.Limits.{IsWithinStandard};
+    ghost use Rattle.script_shell.specs.Limits.{IsHeld};
     ghost use Rattle.shell_names.specs.State.{State};
     ghost use Rattle.script_shell.specs.declared.limits.Limits.{Limits};
 
@@ -42,14 +43,15 @@ impl Model for Shell {
 
     ghost view = { λ s. (s.names, s.limits) };
 
-    ghost invariant = { λ s. IsWithinStandard s.limits };
+    ghost invariant = { λ s. IsHeld s.limits s.names };
 }
 
 impl Shell {
     /// A shell that holds no names. It takes no memory.
     pub fn new(alloc: Global, limits: Limits) -> Shell
         requires { IsWithinStandard limits }
-        ensures { result ≡ ([], limits) }
+        ensures value { result ≡ ([], limits) }
+        ensures within { IsWithin result.1 result.0 }
     {
         Shell {
             alloc,
@@ -64,6 +66,8 @@ impl Shell {
         ensures text { IfOk result (λ r. r.text ≡ reply_to self.old.1 self.old.0 command.now) }
         ensures refusal { IfOk result (λ r. r.refusal ≡ failed self.old.1 self.old.0 command.now) }
         ensures sound { OnOk result (AreSound (certificate_to self.old.1 self.old.0 command.now)) }
+        ensures vain { OnOk result (ReplyInVain self.old.1 self.old.0 command.now) }
+        ensures within { IsWithin self.new.1 self.new.0 }
         ensures err { OnErr result (self.new ≡ self.old) }
     {
         match self.obey(command) {
@@ -80,6 +84,8 @@ impl Shell {
         ensures state { OnOk result (self.new ≡ ((meaning self.old.1 self.old.0 command.now).after, self.old.1)) }
         ensures refused { IfErr result (λ stop. StopsAt stop (failed self.old.1 self.old.0 command.now)) }
         ensures sound { OnOk result (AreSound (certificate_for self.old.0 command.now)) }
+        ensures vain { OnOk result (VerdictInVain self.old.0 command.now) }
+        ensures within { IsWithin self.new.1 self.new.0 }
         ensures err { OnErr result (self.new ≡ self.old) }
     {
         match command {

@@ -67,6 +67,7 @@ pub fn read_all<S: Source>(alloc: Global, source: &mut S) -> Result<Vec<u8>, Rea
     ensures within { result ≢ Err ReadEnd.TooLong → S.taken source.new ≤ S.taken source.old + INPUT_LIMIT }
     ensures gave { (bytes : List ℕ) × Gave (S.left source.old) (S.left source.new) (S.taken source.old) (S.taken source.new) bytes }
     ensures later { S.faults source.old ≤ S.faults source.new }
+    ensures told { result ≢ Err ReadEnd.Failed → S.faults source.new ≡ S.faults source.old }
 {
     let mut bytes = Vec::new(alloc);
     let mut piece = zeros(alloc, PIECE)?;
@@ -101,6 +102,7 @@ fn take_piece<S: Source>(
     ensures short { result ≢ Err ReadEnd.TooLong
         → S.taken source.new + vec_len bytes.old ≤ S.taken source.old + INPUT_LIMIT }
     ensures later { S.faults source.old ≤ S.faults source.new }
+    ensures told { result ≢ Err ReadEnd.Failed → S.faults source.new ≡ S.faults source.old }
 {
     let count = match source.read(piece) {
         Ok(count) => count,

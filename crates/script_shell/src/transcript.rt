@@ -1,5 +1,6 @@
 ghost use Rattle.std.specs.Prelude.{◌≡◌, ◌<◌, ◌+◌, ◌-◌, ◌^◌, ◌++◌, ◌||◌, [], not, false, length, take, drop, OnOk, IfOk, IfSome, IfNone};
 ghost use Rattle.script_text.specs.Reading.{command_of};
+ghost use Rattle.script_shell.specs.InVain.{InVainIn, PieceInVain, ScriptInVain};
 ghost use Rattle.script_shell.specs.Limits.{standard};
 ghost use Rattle.script_shell.specs.Replays.{AreSound, Replays, certificate_in, piece_certificate};
 ghost use Rattle.script_shell.specs.Transcript.{cut_from, before_others, numbered, reply_in, state_in, is_refused_in, piece_text, after_piece, piece_refuses, rest_text, transcript, is_refusing};
@@ -23,6 +24,7 @@ pub fn transcript(alloc: Global, bytes: &[u8]) -> Result<Answers, Memory>
     ensures text { IfOk result (λ a. a.text ≡ transcript bytes.now) }
     ensures refusing { IfOk result (λ a. a.refusing ≡ is_refusing bytes.now) }
     ensures replays { OnOk result (Replays bytes.now) }
+    ensures in_vain { OnOk result (ScriptInVain bytes.now) }
 {
     let mut session = Session::new(alloc);
     let mut rest = bytes;
@@ -91,6 +93,7 @@ impl Session {
         ensures refusing { OnOk result (self.new.refusing
             ≡ (self.old.refusing || piece_refuses (record { count = self.old.count; state = self.old.shell.0 }) piece.now)) }
         ensures sound { OnOk result (AreSound (piece_certificate (record { count = self.old.count; state = self.old.shell.0 }) piece.now)) }
+        ensures in_vain { OnOk result (PieceInVain (record { count = self.old.count; state = self.old.shell.0 }) piece.now) }
     {
         if is_blank(piece) {
             return Ok(());
@@ -135,6 +138,7 @@ fn put_reply(alloc: Global, shell: &mut Shell, piece: &[u8], out: &mut Text) -> 
     ensures text { OnOk result (out.new ≡ out.old ++ reply_in shell.old.0 (command_of piece.now)) }
     ensures refused { IfOk result (λ refused. refused ≡ is_refused_in shell.old.0 (command_of piece.now)) }
     ensures sound { OnOk result (AreSound (certificate_in shell.old.0 (command_of piece.now))) }
+    ensures in_vain { OnOk result (InVainIn shell.old.0 (command_of piece.now)) }
 {
     match read_command(alloc, piece) {
         Ok(command) => {

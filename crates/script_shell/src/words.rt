@@ -1,6 +1,6 @@
 ghost use Rattle.std.specs.Prelude.{◌≡◌, map};
 ghost use Rattle.std.specs.String.{string_bytes};
-ghost use Rattle.script_text.specs.Bytes.{number_of};
+ghost use Rattle.plain_text.specs.Bytes.{number_of};
 ghost use Rattle.script_shell.specs.Output.{bench_form, form_of, numbers_form, word_form};
 
 use crate::bench::is_within;

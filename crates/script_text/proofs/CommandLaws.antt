@@ -23,7 +23,8 @@ use Rattle.script_text.specs.Laws.{ReadsTheSpelled, SpelledApart}
 use Rattle.script_text.specs.Parts.{before, number, word, NoneBegins, NoneIs}
 use Rattle.script_text.proofs.PartLaws.{before_before, behind}
 use Rattle.script_text.specs.Reading.{same_token, same_tokens, numbers_in, lists_in, word_in, built, NoneBuilt, made, spoken, NoneSpoken, guess, checked, command_in, command_of}
-use Rattle.script_text.specs.Tokens.{tokens, is_text}
+use Rattle.plain_text.specs.Bytes.{is_text}
+use Rattle.script_text.specs.Tokens.{tokens}
 use Rattle.script_text.specs.Verbs.{verb_of, verb_word, verbs}
 
 text_same : (v : List ℕ) → is_text v v ≡ true

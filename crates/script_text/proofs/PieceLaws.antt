@@ -5,7 +5,7 @@ use Rattle.std.proofs.lemmas.Bool.Decides.{nat_tests}
 use Rattle.std.proofs.lemmas.List.{drop_more, take_more, append-nil}
 use Rattle.std.specs.List.{list_all}
 use Rattle.simplex.proofs.InOrderLaws.{and_left, and_right, and_both}
-use Rattle.script_text.specs.Bytes.{is_white, is_run_byte}
+use Rattle.plain_text.specs.Bytes.{is_white, is_run_byte}
 use Rattle.script_text.specs.declared.token.Token.{Token}
 use Rattle.script_text.specs.Tokens.{plain, plain_from, goes_on, in_front, pieces, is_at_piece, token_of, tokens, cons_both, all_of, is_blank}
 use Rattle.script_text.specs.Parts.{before}

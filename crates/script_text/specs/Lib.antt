@@ -1,11 +1,7 @@
-pub mod Bytes
-pub mod Condition
 pub mod Grammar
 pub mod Laws
 pub mod Methods
-pub mod Name
 pub mod Parts
-pub mod Printing
 pub mod Reading
 pub mod Tokens
 pub mod Verbs

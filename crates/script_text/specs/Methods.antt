@@ -1,6 +1,6 @@
 -- The first words of the makers that are no lists.
 use Rattle.std.specs.Prelude.{ℕ, List, [], ◌∷◌, Option, find, codes}
-use Rattle.script_text.specs.Tokens.{is_text}
+use Rattle.plain_text.specs.Bytes.{is_text}
 use Rattle.script_text.specs.declared.method.Method.{Method}
 use Rattle.script_text.specs.declared.method.Method.TheVariants as method
 

@@ -3,7 +3,8 @@ use Rattle.std.specs.Prelude.{◌≡◌, ℕ, Bool, true, false, ◌&&◌, ◌==
 use Rattle.std.specs.Option.{option_map}
 use Rattle.script_text.specs.declared.token.Token.{Token}
 use Rattle.script_text.specs.declared.token.Token.TheVariants.{Word, Number, Assign, Open, Close, Comma}
-use Rattle.script_text.specs.Tokens.{is_text, tokens}
+use Rattle.plain_text.specs.Bytes.{is_text}
+use Rattle.script_text.specs.Tokens.{tokens}
 use Rattle.script_text.specs.Grammar.{command_tokens, maker_tokens}
 use Rattle.script_text.specs.declared.command.Command.{Command}
 use Rattle.script_text.specs.declared.command.Command.TheVariants as command

@@ -1,8 +1,7 @@
 -- The tokens of a command.
-use Rattle.std.specs.Prelude.{ℕ, Bool, true, false, not, ◌&&◌, ◌||◌, List, [], ◌∷◌, Option, Some, None, if◌then◌else◌, ◌==◌, nat_eq, codes}
+use Rattle.std.specs.Prelude.{ℕ, Bool, true, false, not, ◌&&◌, ◌||◌, List, [], ◌∷◌, Option, Some, None, if◌then◌else◌, ◌==◌, codes}
 use Rattle.std.specs.List.{list_all}
-use Rattle.std.specs.Cmp.Lexicographic.{pointwise}
-use Rattle.script_text.specs.Bytes.{is_run_byte, is_white, is_word, is_number, value_onto}
+use Rattle.plain_text.specs.Bytes.{is_run_byte, is_text, is_white, is_word, is_number, value_onto}
 use Rattle.script_text.specs.declared.token.Token.{Token}
 use Rattle.script_text.specs.declared.token.Token.TheVariants.{Word, Number, Assign, Open, Close, Comma}
 
@@ -34,10 +33,6 @@ in_front c (d ∷ cs) (p ∷ ps) = if goes_on c d then (c ∷ p) ∷ ps else (c 
 abbrev pub pieces : List ℕ → List (List ℕ)
 pieces [] = []
 pieces (c ∷ cs) = if is_white c then pieces cs else in_front c cs (pieces cs)
-
--- whether the bytes are this text
-abbrev pub is_text : List ℕ → List ℕ → Bool
-is_text = pointwise nat_eq
 
 -- the sign that a piece is, if it is one
 abbrev pub sign_of : List ℕ → Option Token

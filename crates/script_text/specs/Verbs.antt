@@ -1,6 +1,6 @@
 -- The first words of the commands that are no assignments.
 use Rattle.std.specs.Prelude.{ℕ, List, [], ◌∷◌, Option, find, codes}
-use Rattle.script_text.specs.Tokens.{is_text}
+use Rattle.plain_text.specs.Bytes.{is_text}
 use Rattle.script_text.specs.declared.verb.Verb.{Verb}
 use Rattle.script_text.specs.declared.verb.Verb.TheVariants as verb
 

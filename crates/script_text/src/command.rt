@@ -1,4 +1,4 @@
-use crate::Name;
+use plain_text::Name;
 use simplex::{Lists, Numbers};
 
 /// A command of a script. Its numbers keep the order and the repeats of the script.

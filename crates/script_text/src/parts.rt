@@ -4,8 +4,8 @@ ghost use Rattle.script_text.specs.Parts.{before, number, word, NoneBegins};
 ghost use Rattle.script_text.specs.Tokens.{tokens};
 ghost use Rattle.script_text.specs.declared.token.Token.{Token};
 
-use crate::Name;
 use crate::token::{Token, next_token};
+use plain_text::Name;
 use simplex::{Lists, Memory, Numbers};
 use std::alloc::Global;
 

@@ -9,7 +9,6 @@ ghost use Rattle.script_text.specs.declared.command.Command.{Command};
 ghost use Rattle.script_text.specs.declared.token.Token.TheVariants.{Assign, Word};
 ghost use Rattle.script_text.specs.declared.verb.Verb.TheVariants.{Options};
 
-use crate::bytes::is_white;
 use crate::method::Method;
 use crate::parts::{read_assign, read_word};
 use crate::verb::Verb;
@@ -19,6 +18,7 @@ use crate::whole::{
     whole_number,
 };
 use crate::{Command, CommandFault, Edit, Maker, Name, Question};
+use plain_text::is_white;
 use simplex::Memory;
 use std::alloc::Global;
 

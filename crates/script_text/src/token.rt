@@ -1,12 +1,10 @@
-ghost use Rattle.std.specs.Prelude.{◌≡◌, ◌≤◌, ◌<◌, [], ◌∷◌, IfSome, IsNone, length, take, drop, Some, None, true};
-ghost use Rattle.std.specs.List.{list_all};
+ghost use Rattle.std.specs.Prelude.{◌≡◌, ◌≤◌, ◌<◌, [], ◌∷◌, IfSome, IsNone, length, take, drop, true};
 ghost use Rattle.script_text.specs.declared.token.Token.{Token};
-ghost use Rattle.script_text.specs.Bytes.{is_digit, is_number, number_of, value_onto};
 ghost use Rattle.script_text.specs.Parts.{before, NoneBegins};
 ghost use Rattle.script_text.specs.Tokens.{sign_of, token_of, tokens, goes_on, plain, pieces, is_at_piece};
 
-use crate::bytes::{is_digit, is_run_byte, is_white};
-use crate::{Name, is_in_comment};
+use crate::is_in_comment;
+use plain_text::{Name, is_run_byte, is_white, number_of};
 
 /// A token of a script: a word, a number of at most 18 digits, or a sign.
 #[derive(Clone, Copy, Debug)]
@@ -17,44 +15,6 @@ pub enum Token {
     Open,
     Close,
     Comma,
-}
-
-fn all_digits(piece: &[u8]) -> bool
-    ensures { result ≡ list_all is_digit piece.now }
-{
-    piece.iter().all(|byte| is_digit(*byte))
-}
-
-fn is_number(piece: &[u8]) -> bool
-    ensures { result ≡ is_number piece.now }
-{
-    let Some((first, rest)) = piece.split_first() else {
-        return false;
-    };
-    all_digits(piece) && rest.len() < 18 && (*first != b'0' || rest.is_empty())
-}
-
-fn value_of(digits: &[u8]) -> u64
-    requires digits { list_all is_digit digits.now ≡ true }
-    requires short { length digits.now ≤ 18 }
-    ensures { result ≡ value_onto 0 digits.now }
-{
-    let mut n = 0;
-    for digit in digits {
-        n = 10 * n + (*digit as u64 - 48);
-    }
-    n
-}
-
-/// The number that the word is: 0, or at most 18 digits of which the first is not 0.
-pub fn number_of(word: &[u8]) -> Option<u64>
-    ensures { result ≡ number_of word.now }
-{
-    if is_number(word) {
-        Some(value_of(word))
-    } else {
-        None
-    }
 }
 
 fn sign_of(piece: &[u8]) -> Option<Token>
@@ -76,8 +36,8 @@ fn token_of(piece: &[u8]) -> Option<Token>
     if let Some(name) = Name::of(piece) {
         return Some(Token::Word(name));
     }
-    if is_number(piece) {
-        return Some(Token::Number(value_of(piece)));
+    if let Some(number) = number_of(piece) {
+        return Some(Token::Number(number));
     }
     sign_of(piece)
 }

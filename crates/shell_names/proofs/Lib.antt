@@ -1,2 +1,2 @@
 pub mod StateLaws
-mod StepLaws
+pub mod StepLaws

@@ -1,11 +1,11 @@
 -- Names, their places and their sums.
-use Rattle.std.proofs.Common.{◌≡◌, ◌≤◌, ℕ, suc, ◌+◌, ◌-◌, ◌^◌, min, Bool, true, false, cond, List, [], ◌∷◌, ◌++◌, get_or, Option, Some, None, refl, sym, ap, ◌∙◌, subst, arith}
+use Rattle.std.proofs.Common.{◌≡◌, ◌≤◌, ℕ, suc, ◌+◌, ◌-◌, ◌^◌, min, Bool, true, false, cond, ◌||◌, List, [], ◌∷◌, ◌++◌, length, get_or, Option, Some, None, refl, sym, ap, ◌∙◌, subst, arith}
 use Rattle.std.proofs.Math.ListN.{set}
 use Rattle.std.specs.Option.{MatchOption}
 use Rattle.std.specs.List.{sum_by, position_from}
 use Rattle.std.proofs.lemmas.List.Sums.{sum_by-cons}
 use Rattle.std.proofs.lemmas.Slice.Eq.{bytes_eq-Decides}
-use Rattle.script_text.specs.Tokens.{is_text}
+use Rattle.plain_text.specs.Bytes.{is_text}
 use Rattle.facet_set.specs.Numbers.{weight, weight_limit}
 use Rattle.simplex.proofs.Decided.{neither}
 use Rattle.shell_names.specs.Limits.{journal_limit}
@@ -225,3 +225,13 @@ sums_assigned s x c w rest v j sums h few r =
 -- the sums of a state by another name for it
 pub sums_at : (t s : State) (w j : ℕ) → t ≡ s → AreSums s w j → AreSums t w j
 sums_at t s w j e h = subst (λ (u : State). AreSums u w j) (sym e) h
+
+-- the number of names after one is put
+pub length_put : (e : Named) (s : State) → length (put_entry e s) ≡ cond (holds s e.name) (length s) (length s + 1)
+length_put e [] = refl
+length_put e (n ∷ s) = by (is_text n.name e.name) (holds s e.name) (length_put e s)
+  where
+    by : (b h : Bool) → length (put_entry e s) ≡ cond h (length s) (length s + 1) → length (cond b (e ∷ s) (n ∷ put_entry e s)) ≡ cond (b || h) (suc (length s)) (suc (length s) + 1)
+    by true h k = refl
+    by false true k = ap suc k
+    by false false k = omega (arith, k)

@@ -3,7 +3,7 @@ use Rattle.std.proofs.Common.{◌≡◌, ◌≤◌, ℕ, ◌+◌, List, [], ◌�
 use Rattle.std.proofs.lemmas.List.Sums.{sum_by-cons}
 use Rattle.facet_set.specs.Change.{apart}
 use Rattle.shell_names.specs.declared.trail.Step.{Step}
-use Rattle.shell_names.specs.State.{Complex, Named, changes_along, journal_of, edited}
+use Rattle.shell_names.specs.State.{Complex, Named, changes_along, journal_of, edited, undone, redone}
 use Rattle.shell_names.specs.Limits.{journal_limit}
 use Rattle.shell_names.specs.Steps.{complexes, sizes, AreMeasured, IsEntry}
 
@@ -43,3 +43,18 @@ edited_entry present next past future size h e few =
     let step : Step = record { complex = present; size = size } in
     let s = sum_by-cons (λ (s : Step). s.size) step past in
     record { past_measured = (e ∙ apart_back present next, h.past_measured); future_measured = tt; few = omega (arith, s, e, few) }
+
+-- going one complex back or forth keeps the sizes of all changes
+pub undone_journal : (n : Named) → journal_of (undone n) ≡ journal_of n
+undone_journal n = by n.past refl
+  where
+    by : (past : List Complex) → n.past ≡ past → journal_of (undone n) ≡ journal_of n
+    by [] e = rw e refl
+    by (c ∷ past) e = let a = apart_back c n.present in rw e (omega (arith, a))
+
+pub redone_journal : (n : Named) → journal_of (redone n) ≡ journal_of n
+redone_journal n = by n.future refl
+  where
+    by : (future : List Complex) → n.future ≡ future → journal_of (redone n) ≡ journal_of n
+    by [] e = rw e refl
+    by (c ∷ future) e = let a = apart_back c n.present in rw e (omega (arith, a))

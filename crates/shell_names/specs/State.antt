@@ -9,7 +9,7 @@
 --     journal s           the sizes of all changes between neighbours in past, present and future
 use Rattle.std.specs.Prelude.{ℕ, ◌+◌, Bool, List, [], ◌∷◌, if◌then◌else◌}
 use Rattle.std.specs.List.{list_any, sum_by}
-use Rattle.script_text.specs.Tokens.{is_text}
+use Rattle.plain_text.specs.Bytes.{is_text}
 use Rattle.facet_set.specs.Change.{apart}
 use Rattle.facet_set.specs.Numbers.{weight}
 

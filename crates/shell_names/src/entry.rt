@@ -3,7 +3,7 @@ ghost use Rattle.facet_set.specs.Change.{apart};
 
 use crate::trail::Trail;
 use facet_set::Facets;
-use script_text::Name;
+use plain_text::Name;
 use simplex::Memory;
 use std::alloc::Global;
 use std::marker::Model;
@@ -35,7 +35,7 @@ impl Model for Entry {
 
 impl Entry {
     ghost use Rattle.std.specs.Prelude.{◌≡◌, ◌≤◌, ◌<◌, ◌^◌, ◌-◌, min, length, nat_lt, is_some, IfSome, IfOk, OnOk, OnErr};
-    ghost use Rattle.script_text.specs.Tokens.{is_text};
+    ghost use Rattle.plain_text.specs.Bytes.{is_text};
     ghost use Rattle.facet_set.specs.Numbers.{weight};
     ghost use Rattle.shell_names.specs.Limits.{journal_limit};
     ghost use Rattle.shell_names.specs.State.{named, edited, undone, redone, journal_of};

@@ -4,7 +4,7 @@ ghost use Rattle.shell_names.specs.Sums.{StandsAt};
 
 use crate::entry::Entry;
 use facet_set::Facets;
-use script_text::Name;
+use plain_text::Name;
 use simplex::Memory;
 use std::alloc::Global;
 use std::marker::Model;

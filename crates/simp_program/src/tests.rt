@@ -216,8 +216,19 @@ fn name(text: &str) -> Result<Name, Fail> {
 const SMALL: Limits = Limits {
     names: 2,
     weight: 16,
-    journal: 4,
+    journal: 4096,
 };
+
+#[test]
+fn one_name_is_the_limit(rt: HostRuntime) -> Result<(), Fail> {
+    let limits = Limits { names: 1, ..SMALL };
+    let dialogue = [
+        ("X := bdsimplex 2", "ok 3\n"),
+        ("Y := [[1,2]]", "refused names_full\n"),
+        ("print Y", "refused no_name\n"),
+    ];
+    answers(&rt, rt.alloc(), limits, dialogue.as_slice())
+}
 
 #[test]
 fn names_and_weights_have_limits(rt: HostRuntime) -> Result<(), Fail> {
@@ -258,10 +269,11 @@ fn facet_count(shell: &Shell, name: &Name) -> Result<Option<usize>, Memory> {
 fn the_future_that_an_edit_empties_does_not_count(rt: HostRuntime) -> Result<(), Fail> {
     let limits = Limits {
         weight: 4096,
+        journal: 4,
         ..SMALL
     };
     let dialogue = [
-        ("S := [[1,2,3],[1,2,4],[1,3,4],[2,3,4]]", "ok 4\n"),
+        ("S := bdsimplex 3", "ok 4\n"),
         ("flip S [1,2,3] [9]", "ok 6\n"),
         ("flip S [1,2,9] [10]", "refused journal_full\n"),
         ("undo S", "ok 4\n"),

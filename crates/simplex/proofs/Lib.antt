@@ -1,3 +1,4 @@
+pub mod Binomials
 pub mod Decided
 pub mod FaultLaws
 pub mod Filled

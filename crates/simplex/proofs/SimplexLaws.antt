@@ -161,6 +161,18 @@ front_increasing a s f h = and_both _ _ (all_from (λ b. is_lt (nat_cmp a b)) s 
     less : (c : ℕ) → a < c → is_lt (nat_cmp a c) ≡ true
     less c e = grind (arith, nat_tests)
 
+-- a set that does not lie in another has a label beside it
+pub label_beside : (s t : List ℕ) → is_within s t ≡ false → (x : ℕ) × In x s × (In x t → ⊥)
+label_beside [] t e = cc
+label_beside (x ∷ s) t e =
+    elim (has t x) as (λ v. has t x ≡ v → (y : ℕ) × In y (x ∷ s) × (In y t → ⊥)) [
+      | true ↦ λ h. let r = label_beside s t (sym (ap (λ v. v && is_within s t) h) ∙ e) in (r.0, later r.1, r.2)
+      | false ↦ λ h. (x, first, λ i. apart (has t x) h (has_from t x i))
+    ] refl
+  where
+    apart : (v : Bool) → v ≡ false → v ≡ true → ⊥
+    apart v e h = true≢false (sym h ∙ e)
+
 -- a set that lies in another has no more labels; and where it has as many, it is the other
 pub within_length : (s t : List ℕ) → is_increasing nat_cmp s ≡ true → is_increasing nat_cmp t ≡ true → is_within s t ≡ true → length s ≤ length t
 within_length [] t h k w = omega arith

@@ -1,3 +1,4 @@
+pub mod Binomials
 pub mod Cells
 pub mod FirstFailing
 pub mod Flip

@@ -1,5 +1,5 @@
 -- A yes of `equivalent` is a sound certificate.
-use Rattle.std.proofs.Common.{◌≡◌, ℕ, zero, suc, Bool, true, false, List, [], ◌∷◌, ◌++◌, map, length, refl, sym, ap, ◌∙◌, subst, inl, inr, Option, Some, None, reverse}
+use Rattle.std.proofs.Common.{◌≡◌, ℕ, zero, suc, true, List, [], ◌∷◌, ◌++◌, map, length, refl, sym, ap, ◌∙◌, subst, inl, inr, Option, Some, None, reverse}
 use Rattle.std.specs.Prelude.{slice_get}
 use Rattle.std.specs.List.{list_all, zip}
 use Rattle.std.proofs.lemmas.List.{map-append, reverse-append}
@@ -22,8 +22,8 @@ use Rattle.flip_certificate.specs.declared.certificate.Certificate.{Certificate}
 use Rattle.flip_certificate.specs.declared.certificate.Certificate.TheVariants.{Equivalent}
 use Rattle.verdicts.specs.Laws.{EquivalentYes}
 use Rattle.verdicts.specs.Ready.{IsReady}
-use Rattle.verdicts.specs.Sound.{IsSound, YesIsSound, WalkedInVain, MetOrInVain}
-use Rattle.verdicts.specs.Verdicts.{equivalent_of, equivalence_by, found, reached, meets}
+use Rattle.verdicts.specs.Sound.{IsSound, YesIsSound}
+use Rattle.verdicts.specs.Verdicts.{equivalent_of, equivalence_by, found, reached}
 use Rattle.verdicts.specs.declared.verdict.Verdict.{Verdict}
 use Rattle.verdicts.specs.declared.verdict.Verdict.TheVariants.{Yes}
 use Rattle.verdicts.proofs.WayLaws.{goal_way, goal_flips, goal_simple, goal_back, undoing_flips}
@@ -119,8 +119,3 @@ equivalent_sound c d budget seed v h k e = subst YesIsSound (sym e) (given_sound
 pub undoing_is : (l : List Flip) → map inverse (reverse l) ≡ undoing l
 undoing_is [] = refl
 undoing_is (m ∷ l) = ap (map inverse) (reverse-append (m ∷ []) l) ∙ map-append inverse (reverse l) (m ∷ []) ∙ ap (λ r. r ++ inverse m ∷ []) (undoing_is l)
-
--- a walk of which nothing else is known met, or was in vain
-pub met_or_in_vain : (c : List (List ℕ)) (budget seed : ℕ) (met : Bool) → met ≡ meets c budget seed → (met ≡ false → WalkedInVain c budget seed) → MetOrInVain c budget seed
-met_or_in_vain c budget seed true e f = inl (sym e)
-met_or_in_vain c budget seed false e f = inr (f refl)

@@ -3,5 +3,6 @@ pub mod ManifoldLaws
 pub mod PickedFlips
 pub mod ReadyLaws
 pub mod SphereLaws
+pub mod VainLaws
 pub mod VertexLinks
 pub mod WayLaws

@@ -21,7 +21,7 @@ use Rattle.facet_set.proofs.OptionLaws.{from_options, from_filter_map, given}
 use Rattle.facet_set.proofs.VertexLaws.{verts_labels}
 use Rattle.flip_certificate.specs.Lines.{is_flip}
 use Rattle.annealer.specs.Walk.{first_filled, best_options, mixed_options, other_options, pool, chosen, pick, is_shrinking, is_mixing, below}
-use Rattle.annealer.proofs.PickExists.{missing_low}
+use Rattle.facet_set.proofs.FreshLaws.{missing_low}
 
 -- ---- a pick is an option
 

@@ -6,6 +6,7 @@ use Rattle.std.proofs.lemmas.Bool.Decides.{nat_tests}
 use Rattle.simplex.specs.FirstFailing.{first_failing}
 use Rattle.simplex.specs.Simplex.{label_limit}
 use Rattle.simplex.proofs.InOrderLaws.{and_left, and_right, and_both}
+use Rattle.simplex.proofs.Decided.{equal_at}
 use Rattle.facet_set.specs.Complex.{verts}
 use Rattle.facet_set.specs.Numbers.{is_pure, size, weight_limit}
 use Rattle.annealer.specs.Budget.{is_in_budget, most_facets}
@@ -42,8 +43,8 @@ sphere_ready c budget start h = ready_of 1 c budget (ltb 0 (length c)) true star
 pub manifold_ready : (c : List (List ℕ)) (budget : ℕ) → is_start c ≡ true → first_failing (manifold_tests c budget) ≡ None → IsReady 2 c budget
 manifold_ready c budget start h = ready_of 2 c budget (ltb 0 (length c)) (leb (length (verts c) * budget) links_limit && true) start (all_hold (manifold_tests c budget) h)
 
-each_holds : (p q r s t u v w x : Bool) → (p && (q && (r && (s && (t && (u && (v && (w && (x && true))))))))) ≡ true → (r ≡ true) × (s ≡ true) × (t ≡ true) × (u ≡ true) × (w ≡ true) × (x ≡ true)
-each_holds true true true true true true true true true h = (refl, refl, refl, refl, refl, refl)
+each_holds : (p q r s t u v w x : Bool) → (p && (q && (r && (s && (t && (u && (v && (w && (x && true))))))))) ≡ true → (r ≡ true) × (s ≡ true) × (t ≡ true) × (u ≡ true) × (w ≡ true) × (x ≡ true) × (v ≡ true)
+each_holds true true true true true true true true true h = (refl, refl, refl, refl, refl, refl, refl)
 each_holds true true true true true true true true false h = cc
 each_holds true true true true true true true false x h = cc
 each_holds true true true true true true false w x h = cc
@@ -55,7 +56,7 @@ each_holds true false r s t u v w x h = cc
 each_holds false q r s t u v w x h = cc
 
 module _ (c d : List (List ℕ)) (budget : ℕ) (start_c : is_start c ≡ true) (start_d : is_start d ≡ true) (h : first_failing (equivalent_tests c d budget) ≡ None) where
-  held : (is_pure c ≡ true) × (is_pure d ≡ true) × (leb 1 (size c) ≡ true) × (leb 1 (size d) ≡ true) × (is_in_budget c budget ≡ true) × (is_in_budget d budget ≡ true)
+  held : (is_pure c ≡ true) × (is_pure d ≡ true) × (leb 1 (size c) ≡ true) × (leb 1 (size d) ≡ true) × (is_in_budget c budget ≡ true) × (is_in_budget d budget ≡ true) × ((size c == size d) ≡ true)
   held =
       each_holds (ltb 0 (length c)) (ltb 0 (length d)) (is_pure c) (is_pure d) (leb 1 (size c)) (leb 1 (size d)) (size c == size d) (is_in_budget c budget) (is_in_budget d budget)
       (all_hold (equivalent_tests c d budget) h)
@@ -65,3 +66,6 @@ module _ (c d : List (List ℕ)) (budget : ℕ) (start_c : is_start c ≡ true) 
 
   pub second_ready : IsReady 1 d budget
   second_ready = ready_from 1 d budget start_d held.1 held.3 held.5
+
+  pub sizes_alike : size c ≡ size d
+  sizes_alike = equal_at (size c) (size d) held.6

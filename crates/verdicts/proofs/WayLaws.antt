@@ -10,13 +10,14 @@ use Rattle.simplex.proofs.Filled.{simplex_from, labels_of, rising_of}
 use Rattle.simplex.proofs.InOrderLaws.{and_left, and_right, and_both}
 use Rattle.simplex.proofs.Members.{In, all_at, all_from}
 use Rattle.simplex.proofs.SimplexLaws.{from_union, from_without, disjoint_at, disjoint_from, is_increasing-filter, is_increasing-union}
-use Rattle.facet_set.specs.Complex.{is_complex}
+use Rattle.facet_set.specs.Complex.{is_complex, verts}
 use Rattle.facet_set.specs.Flips.{allowed, flip, is_simplex_boundary, after, goes, undoing}
-use Rattle.facet_set.specs.Numbers.{size}
+use Rattle.facet_set.specs.Numbers.{size, is_pure}
 use Rattle.facet_set.proofs.ComplexLaws.{is_set}
-use Rattle.facet_set.proofs.FlipLaws.{Parts, parts_of, from_ball, from_flip, length-union, length-without, complex_after, small, undoing_lem}
+use Rattle.facet_set.proofs.FlipLaws.{Parts, parts_of, from_ball, from_flip, length-union, length-without, complex_after, small, undoing_lem, flips_back_lem}
 use Rattle.flip_certificate.specs.Lines.{is_flip, is_start}
 use Rattle.annealer.specs.Walk.{pick, flips_by, walk, has_met, to_goal, goal, facet_counts, place_of_least}
+use Rattle.annealer.proofs.PickExists.{verts_after}
 use Rattle.annealer.proofs.WalkLaws.{goal_goes}
 use Rattle.seeded_words.specs.Words.{words}
 use Rattle.verdicts.proofs.PickedFlips.{pick_goes, pick_flip}
@@ -56,14 +57,30 @@ module _ (c : List (List ℕ)) (m : Flip) (simple : list_all is_simplex c ≡ tr
         | inr l ↦ all_at is_label y m.a (labels_of m.a simple_a) (from_without m.a x y l).0
       ])
 
-  simple_next : list_all is_simplex (flip c m.a m.b) ≡ true
+  pub simple_next : list_all is_simplex (flip c m.a m.b) ≡ true
   simple_next = all_from is_simplex (flip c m.a m.b) (λ t i. elim (from_flip c m.a m.b t i) [
     | inl j ↦ all_at is_simplex t c simple j.0
     | inr j ↦ let r = from_ball m.b m.a t j in come_simplex r.0 r.1 t r.2
   ])
 
-  complex_next : is_complex (flip c m.a m.b) ≡ true
+  pub complex_next : is_complex (flip c m.a m.b) ≡ true
   complex_next = complex_after c m.a m.b simple cx simple_a simple_b parts
+
+  -- what the inverse takes out and puts in
+  parts_back : Parts (flip c m.a m.b) m.b m.a
+  parts_back = parts_of (flip c m.a m.b) m.b m.a (flips_back_lem c m.a m.b simple cx simple_a simple_b ok).0
+
+  pub pure_next : is_pure (flip c m.a m.b) ≡ true
+  pure_next = parts_back.pure
+
+  pub size_next : size (flip c m.a m.b) ≡ size c
+  size_next = let p = parts_back.sizes.2 in let q = parts.sizes.2 in same p q
+    where
+      same : length m.b + length m.a ≡ size (flip c m.a m.b) + 1 → length m.a + length m.b ≡ size c + 1 → size (flip c m.a m.b) ≡ size c
+      same p q = omega (arith, p, q)
+
+  pub verts_next : length (verts (flip c m.a m.b)) ≤ length (verts c) + 1
+  verts_next = verts_after c m.a m.b parts
 
 -- ---- flips one after another
 
@@ -73,6 +90,21 @@ simple_way c (m ∷ ms) simple cx fs h =
     let f : is_flip m ≡ true = and_left _ _ fs in
     let ok : allowed c m.a m.b ≡ true = and_left _ _ h in
     simple_way (flip c m.a m.b) ms (simple_next c m simple cx f ok) (complex_next c m simple cx f ok) (and_right (is_flip m) _ fs) (and_right (allowed c m.a m.b) _ h)
+
+complex_way : (c : List (List ℕ)) (ms : List Flip) → list_all is_simplex c ≡ true → is_complex c ≡ true → list_all is_flip ms ≡ true → goes c ms ≡ true → is_complex (after c ms) ≡ true
+complex_way c [] simple cx fs h = cx
+complex_way c (m ∷ ms) simple cx fs h =
+    let f : is_flip m ≡ true = and_left _ _ fs in
+    let ok : allowed c m.a m.b ≡ true = and_left _ _ h in
+    complex_way (flip c m.a m.b) ms (simple_next c m simple cx f ok) (complex_next c m simple cx f ok) (and_right (is_flip m) _ fs) (and_right (allowed c m.a m.b) _ h)
+
+size_way : (c : List (List ℕ)) (ms : List Flip) → list_all is_simplex c ≡ true → is_complex c ≡ true → list_all is_flip ms ≡ true → goes c ms ≡ true → size (after c ms) ≡ size c
+size_way c [] simple cx fs h = refl
+size_way c (m ∷ ms) simple cx fs h =
+    let f : is_flip m ≡ true = and_left _ _ fs in
+    let ok : allowed c m.a m.b ≡ true = and_left _ _ h in
+    size_way (flip c m.a m.b) ms (simple_next c m simple cx f ok) (complex_next c m simple cx f ok) (and_right (is_flip m) _ fs) (and_right (allowed c m.a m.b) _ h)
+    ∙ size_next c m simple cx f ok
 
 all_append : (l ms : List Flip) → list_all is_flip l ≡ true → list_all is_flip ms ≡ true → list_all is_flip (l ++ ms) ≡ true
 all_append [] ms h k = k
@@ -147,6 +179,12 @@ module _ (c : List (List ℕ)) (budget seed : ℕ) where
 
     pub goal_simple : list_all is_simplex (goal c (walk c seed budget)) ≡ true
     goal_simple = simple_way c way simple cx goal_flips goal_way
+
+    pub goal_complex : is_complex (goal c (walk c seed budget)) ≡ true
+    goal_complex = complex_way c way simple cx goal_flips goal_way
+
+    pub goal_size : size (goal c (walk c seed budget)) ≡ size c
+    goal_size = size_way c way simple cx goal_flips goal_way
 
     -- the inverses, last first, lead back from the goal
     pub goal_back : (goes (after c way) (undoing way) ≡ true) × (after (after c way) (undoing way) ≡ c)

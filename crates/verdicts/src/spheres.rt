@@ -44,8 +44,7 @@ fn sphere_fault(c: &Facets, budget: u64) -> Result<Option<VerdictFault>, Memory>
 // The verdict, where no test fails.
 fn decide(alloc: Global, c: &Facets, budget: u64, seed: u64) -> Result<Verdict, Memory>
     requires { IsReady 1 c.now budget }
-    ensures value { IfOk result (λ v. v ≡ sphere_of c.now budget seed) }
-    ensures vain { IfOk result (λ v. UndecidedInVain c.now budget seed v) }
+    ensures { IfOk result (λ v. v ≡ sphere_of c.now budget seed) }
 {
     let walked = walk_from(alloc, c, budget, seed)?;
     if walked.met {

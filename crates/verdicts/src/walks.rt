@@ -1,7 +1,6 @@
 // The walks of verdicts.
-ghost use Rattle.std.specs.Prelude.{◌≡◌, false, IfOk};
+ghost use Rattle.std.specs.Prelude.{◌≡◌, IfOk};
 ghost use Rattle.verdicts.specs.Ready.{IsReady};
-ghost use Rattle.verdicts.specs.Sound.{WalkedInVain};
 ghost use Rattle.verdicts.specs.Verdicts.{found, reached, meets};
 
 use annealer::{Walked, walk};
@@ -16,7 +15,6 @@ pub fn walk_from(alloc: Global, c: &Facets, budget: u64, seed: u64) -> Result<Wa
     ensures goal { IfOk result (λ r. r.session.present ≡ reached c.now budget seed) }
     ensures flips { IfOk result (λ r. r.flips ≡ found c.now budget seed) }
     ensures met { IfOk result (λ r. r.met ≡ meets c.now budget seed) }
-    ensures vain { IfOk result (λ r. r.met ≡ false → WalkedInVain c.now budget seed) }
 {
     let session = Session::new(alloc, c)?;
     walk(alloc, session, seed, budget)

@@ -43,7 +43,7 @@ fn divide<L: Ledger>(rt: &impl Abort, alloc: Global, blank: Blank) -> Result<(),
     let there = flip(&[1, 2, 3], &[5])?;
     let mut steps = Steps::<L>::open(blank);
     let cancelled = cancelled(alloc, &there, &mut steps)?;
-    assert_eq!(rt; cancelled, ([[4, 0, 0, 0]; 2], 4, 0));
+    assert_eq!(rt; cancelled, ([[4, 0, 0, 0]; 3], 4, 0));
     let divided = divided(alloc, &there, &mut steps)?;
     assert_eq!(rt;
         divided,
@@ -57,18 +57,19 @@ fn divide<L: Ledger>(rt: &impl Abort, alloc: Global, blank: Blank) -> Result<(),
     Ok(())
 }
 
-// The options before the flip is staged and while it is, then the facets and the flips once it is cancelled.
+// The options before the flip is staged, while it is, and once it is cancelled, and then the facets and the flips.
 fn cancelled<L: Ledger>(
     alloc: Global,
     there: &Flip,
     steps: &mut Steps<L>,
-) -> Result<([[usize; 4]; 2], usize, usize), Fail> {
+) -> Result<([[usize; 4]; 3], usize, usize), Fail> {
     let mut sphere = session(alloc, SPHERE)?;
     let before = counts(&sphere);
     sphere.stage(there, steps)?;
     let staged = counts(&sphere);
     sphere.cancel();
-    Ok(([before, staged], sphere.facet_count(), sphere.mark()))
+    let after = counts(&sphere);
+    Ok(([before, staged, after], sphere.facet_count(), sphere.mark()))
 }
 
 // The options and the flips after the flip, some of those read (`read_flips`), and what it answers when it is staged once more.

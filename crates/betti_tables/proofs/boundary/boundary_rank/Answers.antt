@@ -11,7 +11,7 @@ use Rattle.betti_tables.proofs.boundary.boundary_rank.Goals as goal
 
 pub boundaries-requires-clause-found : goal.boundaries-requires-clause-found
 boundaries-requires-clause-found g c =
-    let l = c.args.l.now in
+    let l = c.args.l.now.facets in
     let k = c.args.k in
     λ s i.
     subst (λ rows. HasRows rows s) (sym (c.as_slice.ensures ∙ c.in_ok-rows.ensures))
@@ -19,7 +19,7 @@ boundaries-requires-clause-found g c =
 
 pub returns-clause-value : goal.returns-clause-value
 returns-clause-value g c =
-    let l = c.args.l.now in
+    let l = c.args.l.now.facets in
     let k = c.args.k in
     c.rank.ensures.value
     ∙ sym (places_lem c.as_slice.result.now c.in_ok-matrix.matrix.columns (map column c.as_slice-2.result.now) c.in_ok-matrix.ensures)

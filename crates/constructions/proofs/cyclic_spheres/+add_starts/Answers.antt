@@ -1,6 +1,6 @@
 use Rattle.std.proofs.Common.{◌≡◌, ◌≤◌, ◌<◌, ◌+◌, ◌++◌, map, ℕ, sym, subst, arith}
 use Rattle.constructions.specs.Runs.{starts}
-use Rattle.constructions.proofs.RankedLaws.{on_ok}
+use Rattle.ranked_set.proofs.BlockLaws.{on_ok}
 use Rattle.constructions.proofs.CyclicLaws.{IsFront, front_push, front_one_more, below_more, start_end, start_more}
 use Rattle.constructions.proofs.cyclic_spheres.+add_starts.Goals as goal
 

@@ -1,5 +1,5 @@
 use Rattle.std.proofs.Common.{◌≡◌}
-use Rattle.constructions.specs.Runs.{choose}
+use Rattle.simplex.specs.Binomials.{choose}
 use Rattle.constructions.proofs.cyclic_spheres.choose.Given as goal
 
 abbrev pub invariant-loop-i : goal.invariant-loop-i

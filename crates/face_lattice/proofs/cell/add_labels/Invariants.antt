@@ -8,4 +8,5 @@ abbrev pub invariant-loop-label : goal.invariant-loop-label
 invariant-loop-label l = record {
   labels : l.up.items ≡ union l.initial.up.items (minus (take l.label-index l.label-items) l.s);
   rising : IsTrue (is_increasing nat_cmp l.up.items);
+  capacity : l.up.capacity ≡ l.initial.up.capacity;
 }

@@ -1,5 +1,5 @@
 use Rattle.std.proofs.Common.{sym, ap, ◌∙◌}
-use Rattle.script_text.specs.Tokens.{is_text}
+use Rattle.plain_text.specs.Bytes.{is_text}
 use Rattle.flip_certificate.proofs.GuessedLaws.{exact_simplex_none, exact_simplex_not}
 use Rattle.flip_certificate.proofs.guessing.exact_simplex.Goals as goal
 use Rattle.flip_certificate.proofs.guessing.exact_simplex.Goals.{in_default-via-in-Ok+else-eq, in_default-via-in_default}

@@ -1,5 +1,5 @@
-use Rattle.script_text.specs.Printing.{simplex_text}
-use Rattle.script_text.proofs.FrontLaws.{whole_text}
+use Rattle.plain_text.specs.Printing.{simplex_text}
+use Rattle.plain_text.proofs.FrontLaws.{whole_text}
 use Rattle.flip_certificate.specs.Lines.{pair_list}
 use Rattle.flip_certificate.proofs.writing.put_pairs.Goals as goal
 

@@ -1,6 +1,6 @@
 use Rattle.std.proofs.Common.{◌≡◌, ◌∷◌, ◌++◌, take}
 use Rattle.std.specs.List.{flat_map}
-use Rattle.script_text.specs.Printing.{simplex_text}
+use Rattle.plain_text.specs.Printing.{simplex_text}
 use Rattle.flip_certificate.specs.Lines.{pair_list}
 use Rattle.flip_certificate.proofs.writing.put_pairs.Given as goal
 

@@ -1,6 +1,6 @@
 use Rattle.std.proofs.Common.{◌≡◌, ℕ, List, [], ◌∷◌, ◌++◌, map, ap, ◌∙◌}
 use Rattle.std.specs.Fmt.{decimal}
-use Rattle.script_text.specs.Printing.{bracketed_text}
+use Rattle.plain_text.specs.Printing.{bracketed_text}
 use Rattle.reply_texts.proofs.NumberLaws.{number_texts}
 use Rattle.reply_texts.proofs.answers.numbers_reply.Goals as goal
 

@@ -1,4 +1,4 @@
-use Rattle.script_text.proofs.FrontLaws.{whole_text}
+use Rattle.plain_text.proofs.FrontLaws.{whole_text}
 use Rattle.reply_texts.specs.Replies.{flip_text}
 use Rattle.reply_texts.proofs.flips.put_flips.Goals as goal
 

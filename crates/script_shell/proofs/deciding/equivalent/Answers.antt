@@ -1,4 +1,4 @@
-use Rattle.std.proofs.Common.{◌∷◌, subst, sym, ap, ◌∙◌}
+use Rattle.std.proofs.Common.{◌≡◌, true, is_ok, ◌∷◌, subst, sym, ap, ◌∙◌}
 use Rattle.shell_names.specs.State.{Complex, present}
 use Rattle.verdicts.specs.Tests.{equivalent_tests}
 use Rattle.verdicts.specs.Verdicts.{equivalent_of}
@@ -6,8 +6,8 @@ use Rattle.script_shell.specs.Commands.{name_test, verdict_reply, verdict_tests}
 use Rattle.script_shell.proofs.Refusals.{if_ok, on_ok}
 use Rattle.script_shell.proofs.Replaying.{sound_yes}
 use Rattle.script_shell.specs.Replays.{AreSound, certificate_of}
-use Rattle.verdicts.specs.Sound.{YesIsSound}
-use Rattle.script_shell.proofs.Verdicts.{two_names, passes_as, stops_as}
+use Rattle.verdicts.specs.Sound.{CountedInVain, YesIsSound}
+use Rattle.script_shell.proofs.Verdicts.{two_names, passes_as, stops_as, verdict_at}
 use Rattle.script_shell.proofs.deciding.equivalent.Goals as goal
 
 pub returns-clause-passed : goal.returns-clause-passed
@@ -53,3 +53,15 @@ returns-clause-sound c =
     on_ok c.decided.result (YesIsSound (verdict d e)) (AreSound (certificate_of (verdict x y)))
     (λ h. sound_yes (verdict x y) (subst (λ (b : Complex). YesIsSound (verdict x b)) c.in-Some-present.ensures.value (subst (λ (a : Complex). YesIsSound (verdict a e)) c.in-Some.ensures.value h)))
     (c.decided.ensures.sound (verdict d e) c.equivalent.ensures.value)
+
+pub returns-clause-vain : goal.returns-clause-vain
+returns-clause-vain c =
+    let vain = λ (a b : Complex). CountedInVain a b c.args.budget c.args.seed (equivalent_of a b c.args.budget c.args.seed) in
+    let d = c.in-Some.start.now in
+    let e = c.in-Some-present.target.now in
+    let x = present c.args.names.now c.args.left.now in
+    let y = present c.args.names.now c.args.right.now in
+    on_ok c.decided.result (is_ok c.equivalent.result ≡ true) (vain x y)
+    (λ h. subst (λ (b : Complex). vain x b) c.in-Some-present.ensures.value (subst (λ (a : Complex). vain a e) c.in-Some.ensures.value
+    (verdict_at c.equivalent.result (equivalent_of d e c.args.budget c.args.seed) (CountedInVain d e c.args.budget c.args.seed) h c.equivalent.ensures.value c.equivalent.ensures.vain)))
+    c.decided.ensures.given

@@ -1,4 +1,4 @@
-use Rattle.std.proofs.Common.{◌∷◌, subst, sym, ap, ◌∙◌}
+use Rattle.std.proofs.Common.{◌≡◌, true, is_ok, ◌∷◌, subst, sym, ap, ◌∙◌}
 use Rattle.shell_names.specs.State.{Complex, present}
 use Rattle.verdicts.specs.Tests.{sphere_tests}
 use Rattle.verdicts.specs.Verdicts.{sphere_of}
@@ -6,8 +6,8 @@ use Rattle.script_shell.specs.Commands.{name_test, verdict_reply, verdict_tests}
 use Rattle.script_shell.proofs.Refusals.{if_ok, on_ok}
 use Rattle.script_shell.proofs.Replaying.{sound_yes}
 use Rattle.script_shell.specs.Replays.{AreSound, certificate_of}
-use Rattle.verdicts.specs.Sound.{YesIsSound}
-use Rattle.script_shell.proofs.Verdicts.{one_name, passes_as, stops_as}
+use Rattle.verdicts.specs.Sound.{UndecidedInVain, YesIsSound}
+use Rattle.script_shell.proofs.Verdicts.{one_name, passes_as, stops_as, verdict_at}
 use Rattle.script_shell.proofs.deciding.sphere.Goals as goal
 
 pub returns-clause-passed : goal.returns-clause-passed
@@ -40,3 +40,13 @@ returns-clause-sound c =
     let e = present c.args.names.now c.args.name.now in
     on_ok c.decided.result (YesIsSound (verdict d)) (AreSound (certificate_of (verdict e)))
     (λ h. sound_yes (verdict e) (subst (λ (x : Complex). YesIsSound (verdict x)) c.in-Some.ensures.value h)) (c.decided.ensures.sound (verdict d) c.sphere.ensures.value)
+
+pub returns-clause-vain : goal.returns-clause-vain
+returns-clause-vain c =
+    let verdict = λ (e : Complex). sphere_of e c.args.budget c.args.seed in
+    let d = c.in-Some.complex.now in
+    let e = present c.args.names.now c.args.name.now in
+    on_ok c.decided.result (is_ok c.sphere.result ≡ true) (UndecidedInVain e c.args.budget c.args.seed (verdict e))
+    (λ h. subst (λ (x : Complex). UndecidedInVain x c.args.budget c.args.seed (verdict x)) c.in-Some.ensures.value
+    (verdict_at c.sphere.result (verdict d) (UndecidedInVain d c.args.budget c.args.seed) h c.sphere.ensures.value c.sphere.ensures.vain))
+    c.decided.ensures.given

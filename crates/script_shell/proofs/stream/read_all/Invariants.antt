@@ -7,7 +7,7 @@ invariant-pieces g l = record {
   short : vec_len l.bytes ≤ 16777216;
   bytes : Loses (g.S.Source.left l.initial.source) (g.S.Source.left l.source) l.bytes.items;
   taken : g.S.Source.taken l.source ≡ g.S.Source.taken l.initial.source + vec_len l.bytes;
-  later : g.S.Source.faults l.initial.source ≤ g.S.Source.faults l.source;
+  told : g.S.Source.faults l.source ≡ g.S.Source.faults l.initial.source;
   room : vec_len l.piece ≡ 65536;
 }
 

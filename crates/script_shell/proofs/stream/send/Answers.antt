@@ -1,7 +1,7 @@
-use Rattle.std.proofs.Common.{◌≤◌, ℕ, List, take, drop, ◌-◌, length, arith, subst, length-take}
+use Rattle.std.proofs.Common.{◌≤◌, ℕ, List, take, drop, ◌-◌, length, arith, ◌∙◌, subst, length-take}
 use Rattle.run_ends.specs.Ends.{Grows}
 use Rattle.run_ends.proofs.EndLaws.{grows_twice}
-use Rattle.script_shell.proofs.Streaming.{two_fronts}
+use Rattle.script_shell.proofs.Streaming.{ok_no_err, two_fronts}
 use Rattle.script_shell.proofs.stream.send.Goals as goal
 
 pub loop-at-preserved : goal.loop-at-preserved
@@ -14,5 +14,5 @@ loop-at-preserved g c =
       within = omega arith;
       bytes = subst (λ (x : List ℕ). Grows (g.K.Sink.written c.args.sink.now) (g.K.Sink.written c.write.new.self) x) (two_fronts text at n (length text - at) fits)
           (grows_twice _ _ _ (take at text) (take n (take (length text - at) (drop at text))) c.loop-at.invariant.bytes c.in_ok-at.ensures.bytes);
-      later = omega (arith, c.in_ok-at.ensures.cause.later);
+      told = c.in_ok-at.ensures.cause.told (ok_no_err _ _) ∙ c.loop-at.invariant.told;
     }

@@ -1,4 +1,5 @@
 use Rattle.std.proofs.Common.{◌≡◌, ◌≤◌, ◌+◌, ◌++◌, ◌||◌, false, length}
+use Rattle.script_shell.specs.InVain.{AreInVain}
 use Rattle.script_shell.specs.Limits.{standard}
 use Rattle.script_shell.specs.Replays.{AreSound, certificates_from}
 use Rattle.script_shell.specs.Transcript.{cut_from, replies, refuses, start}
@@ -14,6 +15,8 @@ invariant-loop-len l = record {
   standard : l.session.shell.1 ≡ standard;
   sound : AreSound (certificates_from (record { count = l.session.count; state = l.session.shell.0 }) (cut_from false l.rest).ended)
       → AreSound (certificates_from start (cut_from false l.bytes).ended);
+  in_vain : AreInVain (record { count = l.session.count; state = l.session.shell.0 }) (cut_from false l.rest).ended
+      → AreInVain start (cut_from false l.bytes).ended;
 }
 
 abbrev pub decreases-loop-len : goal.decreases-loop-len

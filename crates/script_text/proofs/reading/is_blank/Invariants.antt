@@ -1,6 +1,6 @@
 use Rattle.std.proofs.Common.{◌≡◌, drop}
 use Rattle.std.specs.List.{list_all}
-use Rattle.script_text.specs.Bytes.{is_white}
+use Rattle.plain_text.specs.Bytes.{is_white}
 use Rattle.script_text.specs.Tokens.{is_blank, plain_from}
 use Rattle.script_text.proofs.reading.is_blank.Given as goal
 

@@ -2,7 +2,7 @@ use Rattle.std.proofs.Common.{◌∙◌, rules, tests}
 use Rattle.std.proofs.lemmas.Iterator.{YieldsList-from_slice}
 use Rattle.std.proofs.lemmas.Iterator.Search.{position_from_yields_List}
 use Rattle.std.proofs.lemmas.Iterator.Adapters.{position_from-zero}
-use Rattle.script_text.specs.Tokens.{is_text}
+use Rattle.plain_text.specs.Bytes.{is_text}
 use Rattle.shell_names.specs.State.{Named}
 use Rattle.shell_names.proofs.StateLaws.{found}
 use Rattle.shell_names.proofs.names.place_of.Goals as goal

@@ -8,19 +8,19 @@ use Rattle.betti_tables.proofs.rank_table.RankTable.number.Goals as goal
 
 pub overflow_add-boundaries : goal.overflow_add-boundaries
 overflow_add-boundaries c =
-    let low = c.rank.ensures ∙ kept_rank c.args.l.now c.args.self.now c.args.k c.requires.ranks c.requires.all in
-    let high = c.rank-2.ensures ∙ kept_rank c.args.l.now c.args.self.now (c.args.k + 1) c.requires.ranks c.requires.all in
-    omega (arith, ranks_fit_lem c.args.l.now c.args.k c.requires.simplices, low, high, c.face_count-faces.ensures, c.face_count-faces.type_inv)
+    let low = c.rank.ensures ∙ kept_rank c.args.l.now.facets c.args.self.now c.args.k c.requires.ranks c.requires.all in
+    let high = c.rank-2.ensures ∙ kept_rank c.args.l.now.facets c.args.self.now (c.args.k + 1) c.requires.ranks c.requires.all in
+    omega (arith, ranks_fit_lem c.args.l.now.facets c.args.k c.requires.simplices, low, high, c.face_count-faces.ensures, c.face_count-faces.type_inv)
 
 pub overflow_sub-result : goal.overflow_sub-result
 overflow_sub-result c =
-    let low = c.rank.ensures ∙ kept_rank c.args.l.now c.args.self.now c.args.k c.requires.ranks c.requires.all in
-    let high = c.rank-2.ensures ∙ kept_rank c.args.l.now c.args.self.now (c.args.k + 1) c.requires.ranks c.requires.all in
-    omega (arith, ranks_fit_lem c.args.l.now c.args.k c.requires.simplices, low, high, c.face_count-faces.ensures)
+    let low = c.rank.ensures ∙ kept_rank c.args.l.now.facets c.args.self.now c.args.k c.requires.ranks c.requires.all in
+    let high = c.rank-2.ensures ∙ kept_rank c.args.l.now.facets c.args.self.now (c.args.k + 1) c.requires.ranks c.requires.all in
+    omega (arith, ranks_fit_lem c.args.l.now.facets c.args.k c.requires.simplices, low, high, c.face_count-faces.ensures)
 
 pub returns : goal.returns
 returns c =
-    let l = c.args.l.now in
+    let l = c.args.l.now.facets in
     let k = c.args.k in
     let low = c.rank.ensures ∙ kept_rank l c.args.self.now k c.requires.ranks c.requires.all in
     let high = c.rank-2.ensures ∙ kept_rank l c.args.self.now (k + 1) c.requires.ranks c.requires.all in

@@ -14,7 +14,7 @@ returns-then-star c =
     let sized : (nat_lt 0 (length a) && nat_lt 0 (length b) && (length a + length b == c.self.inside.size + 1)) ≡ true = sym c.has_flip_size.ensures ∙ c.if-not-has_flip_size.false in
     let apart : is_disjoint a b ≡ true = sym c.disjoint.ensures ∙ c.if-not-disjoint.false in
     ap (λ v. v && not c.in_ok-face.face) (sym c.if-star.true)
-    ∙ told (facets_of keys) c.self.inside.size keys a b c.self.invariant sized apart c.are_simplices.ensures.a c.are_simplices.ensures.b c.in_ok-star.star c.in_ok-face.face c.in_ok-star.ensures c.in_ok-face.ensures
+    ∙ told (facets_of keys) c.self.inside.size keys a b c.self.invariant sized apart c.inverse-back.ensures.a c.inverse-back.ensures.b c.in_ok-star.star c.in_ok-face.face c.in_ok-star.ensures c.in_ok-face.ensures
     ∙ ap (λ d. allowed d a b) c.self.view_is
 
 pub returns-else-star : goal.returns-else-star
@@ -25,5 +25,5 @@ returns-else-star c =
     let sized : (nat_lt 0 (length a) && nat_lt 0 (length b) && (length a + length b == c.self.inside.size + 1)) ≡ true = sym c.has_flip_size.ensures ∙ c.if-not-has_flip_size.false in
     let apart : is_disjoint a b ≡ true = sym c.disjoint.ensures ∙ c.if-not-disjoint.false in
     c.if-star.false ∙ sym (ap (λ v. v && not c.in_ok-face.face) c.if-star.false)
-    ∙ told (facets_of keys) c.self.inside.size keys a b c.self.invariant sized apart c.are_simplices.ensures.a c.are_simplices.ensures.b c.in_ok-star.star c.in_ok-face.face c.in_ok-star.ensures c.in_ok-face.ensures
+    ∙ told (facets_of keys) c.self.inside.size keys a b c.self.invariant sized apart c.inverse-back.ensures.a c.inverse-back.ensures.b c.in_ok-star.star c.in_ok-face.face c.in_ok-star.ensures c.in_ok-face.ensures
     ∙ ap (λ d. allowed d a b) c.self.view_is

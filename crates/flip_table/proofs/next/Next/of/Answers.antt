@@ -13,13 +13,13 @@ next_lists-requires c =
     let m = c.args.flip.now in
     ap length c.requires.candidates
     ∙ length-map-range_with_len (λ k. candidates c.args.c.now (k + 1)) 0 (size c.args.c.now - 1)
-    ∙ ap (λ n. n - 1) (sym (ap size c.in_ok-present.ensures.value ∙ size_same c.args.c.now m c.are_simplices.ensures.facets.simplices c.are_simplices.ensures.facets.complex c.are_simplices.ensures.a c.are_simplices.ensures.b c.requires.allowed))
+    ∙ ap (λ n. n - 1) (sym (ap size c.in_ok-present.ensures.value ∙ size_same c.args.c.now m c.as_slice-facets.ensures.simplices c.as_slice-facets.ensures.complex c.inverse-back.ensures.a c.inverse-back.ensures.b c.requires.allowed))
 
 pub next_point-requires : goal.next_point-requires
 next_point-requires c la lb =
     let m = c.args.flip.now in
     c.requires.point
-    ∙ same_point c.args.c.now m c.are_simplices.ensures.facets.simplices c.are_simplices.ensures.facets.complex c.are_simplices.ensures.a c.are_simplices.ensures.b c.requires.allowed la lb
+    ∙ same_point c.args.c.now m c.as_slice-facets.ensures.simplices c.as_slice-facets.ensures.complex c.inverse-back.ensures.a c.inverse-back.ensures.b c.requires.allowed la lb
     ∙ ap new_point (sym c.in_ok-present.ensures.value)
 
 pub returns-clause-next : goal.returns-clause-next
@@ -34,7 +34,7 @@ returns-clause-next c =
       candidates =
           c.in_ok-candidates.ensures
           ∙ (λ z. next_lists m (e z) (c.requires.candidates z))
-          ∙ lists_follow c.args.c.now m c.are_simplices.ensures.facets.simplices c.are_simplices.ensures.facets.complex c.are_simplices.ensures.a c.are_simplices.ensures.b c.requires.allowed
+          ∙ lists_follow c.args.c.now m c.as_slice-facets.ensures.simplices c.as_slice-facets.ensures.complex c.inverse-back.ensures.a c.inverse-back.ensures.b c.requires.allowed
           ∙ ap candidate_lists (sym e);
       pointed = c.in_ok-point.ensures;
     }

@@ -1,6 +1,0 @@
-use Rattle.std.proofs.Common.{◌≡◌, ◌+◌, take, length}
-use Rattle.constructions.specs.Ranked.{joined}
-use Rattle.constructions.proofs.ranked.place_in.Given as goal
-
-abbrev pub invariant-loop-block : goal.invariant-loop-block
-invariant-loop-block l = l.fn.place ≡ length (joined (take l.block l.blocks)) + l.inner

@@ -1,0 +1,13 @@
+use Rattle.std.proofs.Common.{◌≤◌, List, ℕ, IsTrue, IsSomeAnd, take, vec_capacity}
+use Rattle.simplex.specs.Members.{In}
+use Rattle.simplex.specs.Simplex.{is_simplex, is_within}
+use Rattle.face_lattice.specs.Slots.{cell_at, AreCellsOf}
+use Rattle.face_lattice.specs.States.{HasRoom}
+use Rattle.face_lattice.proofs.room.ready_each.Given as goal
+
+abbrev pub invariant-loop-s : goal.invariant-loop-s
+invariant-loop-s l = record {
+  cells : (c : List (List ℕ)) → AreCellsOf c (cell_at l.initial.slab) → AreCellsOf c (cell_at l.slab);
+  ready : (s : List ℕ) → In s (take l.s-index l.list) → (t : List ℕ) → IsTrue (is_simplex t) → IsTrue (is_within t s) → IsSomeAnd (cell_at l.slab t) (HasRoom l.labels t);
+  capacity : vec_capacity l.initial.ids ≤ vec_capacity l.ids;
+}

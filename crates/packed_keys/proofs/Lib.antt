@@ -1,0 +1,4 @@
+pub mod OrderLaws
+pub mod PushLaws
+pub mod UnpackLaws
+pub mod WordLaws

@@ -1,0 +1,4 @@
+pub mod BlockLaws
+pub mod ChangeLaws
+pub mod ExcessLaws
+pub mod SearchLaws
