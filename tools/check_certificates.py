@@ -1,9 +1,15 @@
 #!/usr/bin/env python3
 """Checks the certificates in standard input by docs/CERTIFICATES.md alone, and writes what `simp replay` writes.
 
-The status is 0 where no part is refused, and else 1. It needs Python 3.8 or later and nothing else.
+    tools/check_certificates.py [--names] [--of FACETS] [--least N] [FILE ..]
+
+With files, those in these, one after another. --names writes before each reply the file, the line of the certificate and the nearest
+line before it that names it: `# NAME`, or `[n] ..` of a transcript. --of refuses, as `refused other`, a certificate that is of
+another complex than the one whose facets the file lists as [[1,2],[1,3],..], in any order; of `equivalent` either complex will do.
+--least refuses to call it a success where fewer certificates than so many were accepted.
+The status is 0 where no part is refused, and else 1; 2 for wrong words. It needs Python 3.8 or later and nothing else.
 """
-import collections, itertools, json, re, sys
+import argparse, collections, itertools, json, re, sys
 
 LABEL = "(?:[1-9][0-9]{0,5}|1000000)"
 SIMPLEX = r"\[(?:%s(?:,%s){0,11})?\]" % (LABEL, LABEL)
@@ -125,26 +131,65 @@ def check_manifold(part):
 CHECKS = {"certificate 1 sphere\n": check_sphere, "certificate 1 equivalent\n": check_equivalent,
           "certificate 1 manifold\n": check_manifold}
 
-def reply_to(lines):
+def complexes(lines):
+    """The complexes that a certificate is of, as sets of facets."""
+    for line in lines[1:3]:
+        word, _, rest = line.partition(" ")
+        if word in ("facets", "from", "to") and re.fullmatch(LINES[word] + "\n", line):
+            yield set(map(frozenset, json.loads(rest)))
+
+def reply_to(lines, only=None):
     try:
         require(lines[0] in CHECKS, "form 1")
-        return "accepted %s %d" % (lines[0].split()[2], CHECKS[lines[0]](Part(lines)))
+        reply = "accepted %s %d" % (lines[0].split()[2], CHECKS[lines[0]](Part(lines)))
+        require(only is None or only in complexes(lines), "other")
+        return reply
     except Refused as fault:
         return "refused %s" % fault
 
-def parts(lines):
-    found, is_open = [], False
-    for line in lines:
+def named_parts(lines):
+    """Each part with the number of its first line and the nearest line before it that names it."""
+    name, is_open, found = "", False, []
+    for number, line in enumerate(lines, 1):
         if line.startswith("certificate "):
-            found.append([])
+            found.append((number, name, []))
             is_open = True
+        elif not is_open and (line.startswith("# ") or re.match(r"\[\d+\] ", line)):
+            name = line.strip()
         if is_open:
-            found[-1].append(line)
+            found[-1][2].append(line)
         is_open = is_open and line not in ("end", "end\n")
     return found
 
+def facets_in(text):
+    """The facets of the first list of lists in the text."""
+    found = re.search(r"\[\s*(?:\[[\d\s,]*\]\s*,?\s*)*\]", text)
+    return None if found is None else set(map(frozenset, json.loads(found.group())))
+
+def main():
+    words = argparse.ArgumentParser(usage="check_certificates.py [--names] [--of FACETS] [--least N] [FILE ..]")
+    words.add_argument("--names", action="store_true")
+    words.add_argument("--of")
+    words.add_argument("--least", type=int, default=0)
+    words.add_argument("files", nargs="*")
+    words = words.parse_args()
+    only, count, accepted = None, 0, 0
+    try:
+        if words.of is not None:
+            only = facets_in(open(words.of).read())
+            if only is None:
+                words.error("%s has no list of facets" % words.of)
+        for file in words.files or ["-"]:
+            source = sys.stdin.buffer if file == "-" else open(file, "rb")
+            for number, name, part in named_parts(line.decode("latin-1") for line in source):
+                reply = reply_to(part, only)
+                count += 1
+                accepted += reply.startswith("accepted")
+                print("%s:%d %s: %s" % (file, number, name or "no name", reply) if words.names else reply)
+    except OSError as fault:
+        words.error(str(fault))
+    print("checked %d accepted %d" % (count, accepted))
+    return accepted < count or accepted < words.least
+
 if __name__ == "__main__":
-    replies = [reply_to(part) for part in parts(line.decode("latin-1") for line in sys.stdin.buffer)]
-    accepted = sum(reply.startswith("accepted") for reply in replies)
-    print(*replies, "checked %d accepted %d" % (len(replies), accepted), sep="\n")
-    sys.exit(accepted < len(replies))
+    sys.exit(main())

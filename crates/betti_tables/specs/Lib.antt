@@ -1,6 +1,7 @@
 pub mod Betti
 pub mod Boundary
 pub mod Filled
+pub mod FlipLaws
 pub mod Laws
 pub mod Limits
 pub mod Progress

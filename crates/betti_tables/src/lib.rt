@@ -9,5 +9,5 @@ mod rank_table;
 
 pub use betti::Betti;
 pub use betti_fault::BettiFault;
-pub use laws::{limit_is_the_least, ranks_fit};
+pub use laws::{limit_is_the_least, ranks_fit, ranks_stay_below};
 pub use rank_table::RankTable;

@@ -1,4 +1,4 @@
-ghost use Rattle.std.specs.Prelude.{◌≡◌, ◌+◌, ◌<◌, ◌≤◌, ◌==◌, ℕ, false, Some, None, pos, length, map, IfErr, IfOk, IfSome, OnErr, OnOk, Err, ◌⊎◌, if◌then◌else◌};
+ghost use Rattle.std.specs.Prelude.{◌≡◌, ◌+◌, ◌<◌, ◌≤◌, ◌==◌, ℕ, false, Some, None, pos, length, map, nat_le, IfErr, IfOk, IfSome, OnErr, OnOk, Err, ◌⊎◌, if◌then◌else◌};
 ghost use Rattle.std.specs.Bool.{IsTrue};
 ghost use Rattle.std.specs.List.{list_all};
 ghost use Rattle.std.specs.Option.{is_some, unwrap_or};
@@ -76,6 +76,15 @@ impl RankTable {
         }
         self.keep_all(alloc, l, steps)?;
         Ok(self.numbers(l))
+    }
+
+    /// Forgets rank(k) for each k with k + 1 from the size on. It takes no memory.
+    pub fn keep_below(&mut self, size: usize)
+        ensures { (k : ℕ) → kept self.new k ≡ (if nat_le size (k + 1) then None else kept self.old k) }
+    {
+        for k in size.saturating_sub(1)..self.ranks.len() {
+            self.ranks[k] = None;
+        }
     }
 
     // The rank that is kept for k.

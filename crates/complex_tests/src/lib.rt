@@ -18,7 +18,11 @@ mod flip_rules_tests;
 #[cfg(test)]
 mod gf2_rank_tests;
 #[cfg(test)]
+mod invariants_tests;
+#[cfg(test)]
 mod local_parts_tests;
+#[cfg(test)]
+mod morse_lists_tests;
 #[cfg(test)]
 mod packed_keys_tests;
 #[cfg(test)]
@@ -27,5 +31,7 @@ mod ranked_set_tests;
 mod samples;
 #[cfg(test)]
 mod seeded_words_tests;
+#[cfg(test)]
+mod shellings_tests;
 #[cfg(test)]
 mod simplex_tests;

@@ -1,9 +1,7 @@
 -- The list of the facets with one facet more or less.
 use Rattle.std.proofs.Common.{◌≡◌, ℕ, ◌+◌, Bool, true, false, not, cond, ◌&&◌, List, [], ◌∷◌, ◌++◌, length, length-append, refl, sym, ap, ◌∙◌, subst, inl, inr, ◌⊎◌, arith}
 use mathlib.Core.Bool.{true≢false}
-use Rattle.std.specs.Bool.{IsTrue}
-use Rattle.std.specs.Ordering.{nat_cmp, match_ordering}
-use Rattle.std.specs.declared.cmp.Ordering.{Ordering}
+use Rattle.std.specs.Ordering.{match_ordering}
 use Rattle.std.specs.declared.cmp.Ordering.TheVariants.{Less, Equal, Greater}
 use Rattle.std.specs.List.{filter, list_any, list_all}
 use Rattle.std.specs.FinMap.{nat_cmp-IsAntisymmetric}
@@ -11,7 +9,7 @@ use Rattle.std.proofs.lemmas.Cmp.{nat_cmp_total, nat_list_cmp_total}
 use Rattle.std.proofs.lemmas.List.Elements.{filter-append}
 use Rattle.simplex.specs.InOrder.{is_increasing, in_order, put}
 use Rattle.simplex.specs.Simplex.{is_simplex, is_same, is_within, simplex_cmp}
-use Rattle.simplex.proofs.Decided.{agree, false_from, false_at, not_from, not_true}
+use Rattle.simplex.proofs.Decided.{agree, false_from, false_at, not_true}
 use Rattle.simplex.proofs.InOrderLaws.{and_left, and_right, and_both, in_order_again, is_increasing-put}
 use Rattle.simplex.proofs.Members.{In, first, later, at_head, cases, none, any_from, all_at, all_from, in_filter, from_filter, in_left, in_right, in_either, in_order_in, from_in_order, same_sets}
 use Rattle.simplex.proofs.SimplexLaws.{is_increasing-filter}
@@ -19,7 +17,7 @@ use Rattle.facet_set.specs.Complex.{is_complex, is_face, is_maximal_in, is_prope
 use Rattle.facet_set.specs.Flips.{link_vertices}
 use Rattle.facet_set.specs.Numbers.{degree}
 use Rattle.facet_set.proofs.ComplexLaws.{exact, face_at, face_from, maximal_at, maximal_from, same_from, same_itself}
-use Rattle.face_lattice.specs.Cells.{cell_of, kept_at}
+use Rattle.face_lattice.specs.Cells.{kept_at}
 use Rattle.face_lattice.specs.Lattice.{all_but}
 use Rattle.face_lattice.specs.Slots.{AreCellsOf}
 use Rattle.face_lattice.specs.States.{CellState}

@@ -1,7 +1,6 @@
 -- How many faces there are with one facet more.
-use Rattle.std.proofs.Common.{◌≡◌, ℕ, zero, suc, ◌≤◌, ◌<◌, ◌+◌, ◌^◌, Bool, true, false, not, cond, if◌then◌else◌, ◌&&◌, List, [], ◌∷◌, length, get_or, set, ltb, Option, Some, None, IsSome, refl, sym, ap, ◌∙◌, subst, inl, inr, ◌⊎◌, arith}
+use Rattle.std.proofs.Common.{◌≡◌, ℕ, zero, suc, ◌≤◌, ◌<◌, ◌+◌, ◌^◌, Bool, true, false, not, cond, if◌then◌else◌, ◌&&◌, List, length, get_or, set, ltb, Option, Some, None, IsSome, refl, sym, ap, ◌∙◌, subst, inl, inr, ◌⊎◌, arith}
 use mathlib.Core.Bool.{true≢false}
-use Rattle.std.specs.Bool.{IsTrue}
 use Rattle.std.specs.Prelude.{◌==◌}
 use Rattle.std.specs.List.{filter, flat_map, list_all}
 use Rattle.std.proofs.Math.Numerals.{add-one}
@@ -10,10 +9,10 @@ use Rattle.std.proofs.lemmas.Cmp.{nat_list_cmp_total}
 use Rattle.std.proofs.lemmas.List.{get_or-set_same, get_or-set_other}
 use Rattle.simplex.specs.InOrder.{is_increasing, put}
 use Rattle.simplex.specs.Simplex.{is_simplex, is_within, simplex_cmp, subset_at, subsets}
-use Rattle.simplex.proofs.Decided.{equal_at, equal_from, false_from}
+use Rattle.simplex.proofs.Decided.{equal_at, equal_from}
 use Rattle.simplex.proofs.Filled.{rising_of, simplex-subset_at}
 use Rattle.simplex.proofs.InOrderLaws.{is_increasing-in_order}
-use Rattle.simplex.proofs.Members.{In, all_at, same_sets}
+use Rattle.simplex.proofs.Members.{In, same_sets}
 use Rattle.simplex.proofs.SubsetLaws.{number_of, one_number, subset_within}
 use Rattle.facet_set.specs.Complex.{faces, is_face}
 use Rattle.facet_set.specs.Numbers.{face_count}

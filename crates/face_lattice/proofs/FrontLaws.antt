@@ -1,5 +1,5 @@
 -- The facets of a complex, put in one after another.
-use Rattle.std.proofs.Common.{◌≡◌, ℕ, zero, suc, ◌<◌, ◌+◌, true, false, List, [], ◌∷◌, length, take, get_or, refl, sym, ap, ◌∙◌, subst, inl, inr, arith}
+use Rattle.std.proofs.Common.{◌≡◌, ℕ, zero, suc, ◌<◌, ◌+◌, true, false, List, [], ◌∷◌, length, take, get_or, refl, sym, ◌∙◌, subst, inl, inr, arith}
 use mathlib.Core.Bool.{true≢false}
 use Rattle.std.specs.Bool.{IsTrue}
 use Rattle.std.specs.List.{list_all, list_any}
@@ -11,7 +11,7 @@ use Rattle.simplex.specs.Simplex.{is_same, is_within, simplex_cmp}
 use Rattle.simplex.proofs.Decided.{false_from, not_from}
 use Rattle.simplex.proofs.InOrderLaws.{and_left, and_right, and_both}
 use Rattle.simplex.proofs.Members.{In, first, later, cases, none, any_at, all_at, all_from, same_sets}
-use Rattle.facet_set.specs.Complex.{is_complex, is_face, is_maximal_in, is_proper_face}
+use Rattle.facet_set.specs.Complex.{is_complex, is_face, is_maximal_in}
 use Rattle.facet_set.proofs.ComplexLaws.{exact, face_at, maximal_at, same_from}
 use Rattle.facet_set.proofs.FacetLaws.{below_apart}
 use Rattle.facet_set.proofs.GeneratedLaws.{taken_in}

@@ -3,7 +3,7 @@ use Rattle.std.proofs.Common.{◌≡◌, ℕ, ◌<◌, ◌-◌, ◌^◌, Bool, t
 use Rattle.std.specs.Prelude.{◌==◌}
 use Rattle.std.specs.Option.{option_map}
 use Rattle.std.proofs.lemmas.Bool.Decides.{nat_tests}
-use Rattle.simplex.specs.Simplex.{is_simplex, is_within, subset_at}
+use Rattle.simplex.specs.Simplex.{is_simplex, subset_at}
 use Rattle.simplex.proofs.SubsetLaws.{subset_within}
 use Rattle.simplex.proofs.Filled.{simplex-subset_at}
 use Rattle.facet_set.specs.Complex.{is_face}
@@ -12,7 +12,7 @@ use Rattle.face_lattice.specs.Cells.{FaceCell, cell_of, kept_at, same}
 use Rattle.facet_set.proofs.GeneratedLaws.{same_at}
 use Rattle.face_lattice.proofs.CellLaws.{degree_within}
 use Rattle.face_lattice.specs.States.{CellState, shown}
-use Rattle.face_lattice.specs.Slots.{SlabState, cell_at, kept, seen, or_blank, unless_blank, AreCellsOf}
+use Rattle.face_lattice.specs.Slots.{cell_at, kept, seen, or_blank, unless_idle, AreCellsOf}
 use Rattle.face_lattice.proofs.Statements.{DegreesAreFew, FacesArePresent, NotesKeep, RoomKeeps, PutBackKeeps}
 use Rattle.face_lattice.proofs.ListLaws.{old_at, none_is, or_this}
 
@@ -73,17 +73,18 @@ note_keeps c p old new h k = record {
     none_left t true = clear_blank (kept old t) (clear_at (cell_at old t) (h.blank t))
     none_left t false = clear_at (cell_at old t) (h.blank t)
 
-seen_unless : (o : Option CellState) → seen (option_map shown (unless_blank o)) ≡ seen (option_map shown o)
+pub seen_unless : (o : Option CellState) → seen (option_map shown (unless_idle o)) ≡ seen (option_map shown o)
 seen_unless None = refl
-seen_unless (Some x) = by (x.degree == 0) refl
+seen_unless (Some x) = by (x.degree == 0) (length x.askers == 0) refl
   where
-    by : (b : Bool) → (x.degree == 0) ≡ b → seen (option_map shown (cond b None (Some x))) ≡ cond (x.degree == 0) None (Some (shown x))
-    by true e = sym (ap (λ v. cond v None (Some (shown x))) e)
-    by false e = refl
+    by : (b v : Bool) → (x.degree == 0) ≡ b → seen (option_map shown (cond (b && v) None (Some x))) ≡ cond (x.degree == 0) None (Some (shown x))
+    by true true e = sym (ap (λ v. cond v None (Some (shown x))) e)
+    by true false e = refl
+    by false v e = refl
 
-blank_unless : (o : Option CellState) → IfSome o (λ x. x.degree ≡ 0 → x.up ≡ []) → IfSome (unless_blank o) (λ x. x.degree ≡ 0 → x.up ≡ [])
+pub blank_unless : (o : Option CellState) → IfSome o (λ x. x.degree ≡ 0 → x.up ≡ []) → IfSome (unless_idle o) (λ x. x.degree ≡ 0 → x.up ≡ [])
 blank_unless None h = tt
-blank_unless (Some x) h = by (x.degree == 0)
+blank_unless (Some x) h = by (x.degree == 0 && length x.askers == 0)
   where
     by : (b : Bool) → IfSome (cond b None (Some x)) (λ (y : CellState). y.degree ≡ 0 → y.up ≡ [])
     by true = tt
@@ -95,18 +96,18 @@ put_back_keeps c p old new h k = record {
   blank = λ t. subst (λ o. IfSome o (λ (x : CellState). x.degree ≡ 0 → x.up ≡ [])) (sym (k t)) (none_left t (p t));
 }
   where
-    by : (t : List ℕ) (b : Bool) → seen (option_map shown (cond b (unless_blank (old t)) (old t))) ≡ seen (option_map shown (old t))
+    by : (t : List ℕ) (b : Bool) → seen (option_map shown (cond b (unless_idle (old t)) (old t))) ≡ seen (option_map shown (old t))
     by t true = seen_unless (old t)
     by t false = refl
 
-    none_left : (t : List ℕ) (b : Bool) → IfSome (cond b (unless_blank (old t)) (old t)) (λ x. x.degree ≡ 0 → x.up ≡ [])
+    none_left : (t : List ℕ) (b : Bool) → IfSome (cond b (unless_idle (old t)) (old t)) (λ x. x.degree ≡ 0 → x.up ≡ [])
     none_left t true = blank_unless (old t) (h.blank t)
     none_left t false = h.blank t
 
 -- one blank cell given back
-pub one_back : (c : List (List ℕ)) (s : List ℕ) (old new : List ℕ → Option CellState) → AreCellsOf c old → ((t : List ℕ) → new t ≡ cond (same s t) (unless_blank (old s)) (old t)) → AreCellsOf c new
+pub one_back : (c : List (List ℕ)) (s : List ℕ) (old new : List ℕ → Option CellState) → AreCellsOf c old → ((t : List ℕ) → new t ≡ cond (same s t) (unless_idle (old s)) (old t)) → AreCellsOf c new
 one_back c s old new h k = put_back_keeps c (same s) old new h (λ t. k t ∙ by t (same s t) refl)
   where
-    by : (t : List ℕ) (b : Bool) → same s t ≡ b → cond b (unless_blank (old s)) (old t) ≡ cond b (unless_blank (old t)) (old t)
-    by t true e = ap (λ u. unless_blank (old u)) (same_at s t e)
+    by : (t : List ℕ) (b : Bool) → same s t ≡ b → cond b (unless_idle (old s)) (old t) ≡ cond b (unless_idle (old t)) (old t)
+    by t true e = ap (λ u. unless_idle (old u)) (same_at s t e)
     by t false e = refl

@@ -1,5 +1,5 @@
 -- The keys in use are the faces.
-use Rattle.std.proofs.Common.{◌≡◌, ℕ, suc, ◌<◌, ◌≤◌, ◌⊎◌, inl, inr, Bool, true, false, cond, ◌&&◌, List, [], ◌∷◌, length, max, get_or, ltb, Option, Some, None, IsSome, is_some, refl, sym, ap, ◌∙◌, subst, arith}
+use Rattle.std.proofs.Common.{◌≡◌, ℕ, ◌<◌, ◌≤◌, ◌⊎◌, inl, inr, Bool, true, false, cond, ◌&&◌, List, [], ◌∷◌, length, get_or, ltb, Option, Some, None, IsSome, is_some, refl, sym, ap, ◌∙◌, subst, arith}
 use mathlib.Core.Bool.{true≢false}
 use Rattle.std.specs.Bool.{IsTrue}
 use Rattle.std.specs.Prelude.{◌==◌}
@@ -21,8 +21,8 @@ use Rattle.facet_set.proofs.ComplexLaws.{face_at, face_from, from_faces, in_face
 use Rattle.facet_set.proofs.FaceLaws.{face_simplex}
 use Rattle.facet_set.proofs.FaceTables.{distinct-filter, sorted_is, faces_of_keys}
 use Rattle.facet_set.proofs.GeneratedLaws.{same_at}
-use Rattle.face_lattice.specs.Cells.{FaceCell, same, cell_of}
-use Rattle.face_lattice.specs.Slots.{SlabState, id_of, cell_at, seen, AreCellsOf}
+use Rattle.face_lattice.specs.Cells.{same, cell_of}
+use Rattle.face_lattice.specs.Slots.{SlabState, cell_at, seen, AreCellsOf}
 use Rattle.face_lattice.specs.States.{CellState, shown, is_in_use}
 use Rattle.face_lattice.proofs.ViewLaws.{id_from}
 

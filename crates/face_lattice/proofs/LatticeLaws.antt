@@ -1,30 +1,27 @@
 -- What a lattice keeps while facets come and go.
-use Rattle.std.proofs.Common.{◌≡◌, ℕ, zero, suc, ◌≤◌, ◌<◌, ◌+◌, ◌-◌, ◌^◌, Bool, true, false, cond, ◌&&◌, List, [], ◌∷◌, ◌++◌, length, get_or, Option, Some, None, IsSome, IfSome, refl, sym, ap, ◌∙◌, subst, arith}
-use mathlib.Core.Bool.{true≢false}
+use Rattle.std.proofs.Common.{◌≡◌, ℕ, zero, suc, ◌≤◌, ◌<◌, ◌+◌, ◌^◌, Bool, true, false, cond, ◌&&◌, List, [], ◌∷◌, ◌++◌, length, get_or, Option, Some, None, IsSome, IfSome, refl, sym, ap, ◌∙◌, subst, arith}
 use Rattle.std.specs.Bool.{IsTrue}
 use Rattle.std.specs.Prelude.{◌==◌, slice_index_or}
 use Rattle.std.specs.List.{flat_map, list_all, list_any}
 use Rattle.std.specs.Option.{option_map}
 use Rattle.std.specs.Cmp.Lexicographic.{nat_list_eq_equiv}
-use Rattle.std.specs.Map.{lookup}
 use Rattle.std.proofs.lemmas.Cmp.{nat_list_cmp_total}
 use Rattle.std.proofs.lemmas.Map.Steps.{length-le_from_keys}
 use Rattle.simplex.specs.InOrder.{is_increasing, put}
 use Rattle.simplex.specs.Simplex.{is_simplex, is_within, simplex_cmp, subset_at, subsets}
 use Rattle.simplex.proofs.Decided.{equal_at}
-use Rattle.simplex.proofs.Filled.{simplex-subset_at}
 use Rattle.simplex.proofs.InOrderLaws.{and_left, and_right, is_increasing-in_order}
 use Rattle.simplex.proofs.Members.{In, any_at, all_at, from_filter}
 use Rattle.simplex.proofs.SimplexLaws.{is_increasing-filter, within_itself}
-use Rattle.facet_set.specs.Complex.{faces, is_complex, is_face}
+use Rattle.facet_set.specs.Complex.{faces, is_face}
 use Rattle.facet_set.specs.Numbers.{face_count, faces_of_size}
 use Rattle.facet_set.proofs.ComplexLaws.{from_faces, face_from, sets_of}
 use Rattle.facet_set.proofs.FaceLaws.{face_simplex}
 use Rattle.facet_set.proofs.GeneratedLaws.{same_at}
-use Rattle.face_lattice.specs.Cells.{same, cell_of, kept_at}
+use Rattle.face_lattice.specs.Cells.{same, cell_of}
 use Rattle.face_lattice.specs.Counts.{blank_count}
 use Rattle.face_lattice.specs.Lattice.{IsLatticeOf, all_but, facets_in}
-use Rattle.face_lattice.specs.Slots.{SlabState, no_slot, id_of, cell_at, seen, after_more, after_less, AreCellsOf, AreNoted, AreNumbered, IsNoted, KeepsIds}
+use Rattle.face_lattice.specs.Slots.{SlabState, no_slot, id_of, cell_at, seen, after_more, after_less, AreCellsOf, AreNoted}
 use Rattle.face_lattice.specs.States.{CellState, shown}
 use Rattle.face_lattice.proofs.ChangeLaws.{cells_put, cells_end, complex_put, complex_rest, no_facet, not_in_rest, rest_put, simplices_put, simplices_rest}
 use Rattle.face_lattice.proofs.CountLaws.{count_more}

@@ -1,15 +1,19 @@
 -- The numbers of the faces of a facet in an outer set that has one label more.
-use Rattle.std.proofs.Common.{◌≡◌, ℕ, zero, suc, ◌<◌, ◌+◌, ◌*◌, ◌/◌, ◌%◌, ◌^◌, true, false, List, [], ◌∷◌, length, get_or, refl, sym, ap, ◌∙◌, subst, arith}
+use Rattle.std.proofs.Common.{◌≡◌, ℕ, zero, suc, ◌<◌, ◌+◌, ◌*◌, ◌/◌, ◌%◌, ◌^◌, true, false, cond, Option, None, List, [], ◌∷◌, length, get_or, refl, sym, ap, ◌∙◌, subst, arith}
 use Rattle.std.specs.Bool.{IsTrue}
 use Rattle.std.specs.Prelude.{◌==◌}
 use Rattle.std.specs.List.{remove}
 use Rattle.std.proofs.Math.Nat.{mod-eq_of_lt, mod-lt}
 use Rattle.std.proofs.lemmas.Nat.{pow_pos, shr_split}
 use Rattle.std.proofs.lemmas.List.Edits.{length-remove}
-use Rattle.simplex.specs.Simplex.{is_simplex, subset_at}
-use Rattle.simplex.proofs.SubsetLaws.{subset_odd, subset_even, odd_is, even_is}
+use Rattle.std.specs.Map.{lookup}
+use Rattle.simplex.specs.Simplex.{is_simplex, is_within, subset_at}
+use Rattle.simplex.proofs.Filled.{simplex-subset_at}
+use Rattle.simplex.proofs.SubsetLaws.{subset_within, subset_odd, subset_even, odd_is, even_is}
 use Rattle.face_lattice.proofs.Statements.{WholeIsNoted, PartIsNoted, NotesLast}
-use Rattle.face_lattice.specs.Slots.{SlabState, AreNumbered, AreNoted, IsNoted, spread}
+use Rattle.face_lattice.specs.Cells.{same}
+use Rattle.face_lattice.specs.Lattice.{LatticeState, AreIdsWithin, Lacks, id_in}
+use Rattle.face_lattice.specs.Slots.{SlabState, AreFound, AreNumbered, AreNoted, IsNoted, spread}
 use Rattle.facet_set.proofs.FaceNumbers.{number_is}
 use Rattle.face_lattice.proofs.LossLaws.{without_at}
 use Rattle.face_lattice.proofs.MaskLaws.{double, odd_at, even_at}
@@ -72,11 +76,11 @@ part_noted v g ids j s l n = subst (λ f. AreNoted v f (2 ^ j) ids) (without_at 
 
 pub whole_noted : WholeIsNoted
 whole_noted v g ids n =
-    let same = λ (k : ℕ) (h : k < 2 ^ length g). let e : spread (2 ^ length g) k ≡ k = let m = mod-eq_of_lt h in omega (arith, m) in e in
+    let whole = λ (k : ℕ) (h : k < 2 ^ length g). let e : spread (2 ^ length g) k ≡ k = let m = mod-eq_of_lt h in omega (arith, m) in e in
     record {
       some = pow_pos (length g);
-      below = λ k h. omega (arith, h, same k h, n.len);
-      at = λ k h. subst (λ m. IsNoted v (subset_at g k) (get_or ids m 0)) (sym (same k h)) (n.at k h);
+      below = λ k h. omega (arith, h, whole k h, n.len);
+      at = λ k h. subst (λ m. IsNoted v (subset_at g k) (get_or ids m 0)) (sym (whole k h)) (n.at k h);
     }
 
 pub numbers_last : NotesLast
@@ -85,3 +89,19 @@ numbers_last old new g ids k n = record { len = n.len; at = λ m l. still_noted 
 -- the same by the numbers that the machine has
 pub noted_as : (v : SlabState) (f : List ℕ) (len : ℕ) (ids found : List ℕ) → IsTrue (is_simplex f) → len ≡ length f → found ≡ ids → AreNumbered v f ids → AreNoted v f (1 * 2 ^ len % 2 ^ 32) found
 noted_as v f len ids found s e i n = subst (λ g. AreNoted v f g found) (sym (number_is f len s e)) (whole_noted v f found (subst (λ is. AreNumbered v f is) (sym i) n))
+
+-- the same of ids that may be missing
+pub part_found : (l : LatticeState) (v : SlabState) (g : List ℕ) (j : ℕ) (f : List ℕ) (gap : ℕ) (ids : List (Option ℕ)) → Lacks g j f → gap ≡ 2 ^ j → IsTrue (is_simplex f) → l.ids ≡ v.ids → AreIdsWithin l g ids f → AreFound v f gap ids
+part_found l v g j f gap ids h e st i n =
+    let more : suc (length f) ≡ length g = let r = ap length h.rest in omega (arith, r, length-remove g j h.below) in
+    let two : 2 ^ length g ≡ 2 * 2 ^ length f = ap (λ k. 2 ^ k) (sym more) ∙ double (length f) in
+    let below = λ (k : ℕ) (b : k < 2 ^ length f). let b : spread gap k < 2 ^ length g = omega (arith, b, two) in b in
+    let part = λ (k : ℕ). let p : subset_at g (spread gap k) ≡ subset_at f k = ap (λ q. subset_at g (spread q k)) e ∙ sym (subset_spread g j k h.below) ∙ ap (λ t. subset_at t k) (sym h.rest) in p in
+    record {
+      below = λ k b. omega (arith, below k b, n.len);
+      at = λ k b.
+          n.at (spread gap k) (below k b) (ap (λ t. is_within t f) (part k) ∙ subset_within f k)
+          ∙ ap (λ t. cond (is_simplex t) (id_in l t) None) (part k)
+          ∙ ap (λ q. cond q (id_in l (subset_at f k)) None) (simplex-subset_at f k st)
+          ∙ ap (λ es. lookup (same (subset_at f k)) es) i;
+    }

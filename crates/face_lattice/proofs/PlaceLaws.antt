@@ -1,19 +1,17 @@
 -- Room for simplices that are to come.
-use Rattle.std.proofs.Common.{◌≡◌, ℕ, ◌≤◌, ◌<◌, ◌^◌, Bool, true, false, not, cond, ◌&&◌, List, [], ◌∷◌, length, Option, Some, None, IsSome, IfSome, IsSomeAnd, refl, sym, ap, ◌∙◌, subst, inl, inr, arith}
+use Rattle.std.proofs.Common.{◌≡◌, ℕ, ◌<◌, ◌^◌, Bool, true, false, not, cond, ◌&&◌, List, [], length, Option, Some, None, IsSome, IfSome, IsSomeAnd, refl, sym, subst, inl, inr, arith}
 use mathlib.Core.Bool.{true≢false}
 use Rattle.std.specs.Bool.{IsTrue}
-use Rattle.std.specs.Ordering.{nat_cmp}
-use Rattle.std.specs.List.{flat_map}
 use Rattle.std.specs.Option.{option_map}
 use Rattle.std.specs.FinMap.{nat_cmp-IsAntisymmetric}
 use Rattle.std.proofs.lemmas.Cmp.{nat_cmp_total}
 use Rattle.simplex.specs.Simplex.{has, is_simplex, is_within, minus, union, subset_at}
 use Rattle.simplex.proofs.Filled.{rising_of, simplex-subset_at}
-use Rattle.simplex.proofs.InOrderLaws.{and_left, and_right}
+use Rattle.simplex.proofs.InOrderLaws.{and_right}
 use Rattle.simplex.proofs.Members.{In, in_filter, from_filter, in_flat_map, from_flat_map, in_order_in, from_in_order}
-use Rattle.simplex.proofs.SimplexLaws.{is_increasing-union, in_within, within_in, within_length, in_union, from_union, within_trans}
+use Rattle.simplex.proofs.SimplexLaws.{is_increasing-union, in_within, within_in, within_length, in_union, from_union}
 use Rattle.simplex.proofs.SubsetLaws.{number_of, subset_within}
-use Rattle.facet_set.specs.Complex.{facets_with, is_face, verts}
+use Rattle.facet_set.specs.Complex.{facets_with, verts}
 use Rattle.facet_set.proofs.ComplexLaws.{face_at, face_from}
 use Rattle.face_lattice.specs.Lattice.{IsRoomOf, all_but}
 use Rattle.face_lattice.specs.Slots.{SlabState, id_of, cell_at, kept, after_more, AreNoted, IsReady, KeepsIds, Stays}

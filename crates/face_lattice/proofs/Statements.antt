@@ -4,7 +4,7 @@ use Rattle.face_lattice.specs.States.{CellState}
 use Rattle.std.specs.Ordering.{nat_cmp}
 use Rattle.simplex.specs.InOrder.{is_increasing}
 use Rattle.simplex.specs.Simplex.{is_simplex, without}
-use Rattle.face_lattice.specs.Slots.{AreCellsOf, SlabState, AreNumbered, AreNoted, KeepsIds, cell_at, kept, after_more, after_less, or_blank, unless_blank, AreFew, ArePresent}
+use Rattle.face_lattice.specs.Slots.{AreCellsOf, SlabState, AreNumbered, AreNoted, KeepsIds, cell_at, kept, after_more, after_less, or_blank, unless_idle, AreFew, ArePresent}
 
 -- for a facet that is the whole outer set
 abbrev pub WholeIsNoted : Type 0
@@ -46,4 +46,4 @@ RoomKeeps = (c : List (List ℕ)) (old new : SlabState) → AreCellsOf c (cell_a
 
 abbrev pub PutBackKeeps : Type 0
 PutBackKeeps =
-    (c : List (List ℕ)) (p : List ℕ → Bool) (old new : List ℕ → Option CellState) → AreCellsOf c old → ((t : List ℕ) → new t ≡ (if p t then unless_blank (old t) else old t)) → AreCellsOf c new
+    (c : List (List ℕ)) (p : List ℕ → Bool) (old new : List ℕ → Option CellState) → AreCellsOf c old → ((t : List ℕ) → new t ≡ (if p t then unless_idle (old t) else old t)) → AreCellsOf c new

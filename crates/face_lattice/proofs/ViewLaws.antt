@@ -1,23 +1,21 @@
 -- The facets read off the cells.
-use Rattle.std.proofs.Common.{◌≡◌, ℕ, ◌<◌, ◌^◌, Bool, true, false, not, cond, ◌&&◌, List, [], ◌∷◌, length, ltb, Option, Some, None, IsSome, is_some, refl, sym, ap, ◌∙◌, subst, arith}
+use Rattle.std.proofs.Common.{◌≡◌, ℕ, ◌<◌, ◌^◌, Bool, true, false, cond, ◌&&◌, List, [], ◌∷◌, length, Option, Some, None, IsSome, refl, sym, ap, ◌∙◌, subst, arith}
 use mathlib.Core.Bool.{true≢false}
 use Rattle.std.specs.Bool.{IsTrue}
 use Rattle.std.specs.Prelude.{◌==◌, nat_lt, slice_index_or}
-use Rattle.std.specs.Cmp.Lexicographic.{nat_list_eq_equiv}
-use Rattle.std.specs.Map.{keys_of, lookup}
+use Rattle.std.specs.Map.{keys_of}
 use Rattle.std.specs.Option.{option_map}
 use Rattle.std.specs.List.{filter, list_all, list_any, IsDistinct, AllByRecursion}
 use Rattle.std.specs.Ordering.{is_lt}
 use Rattle.std.proofs.lemmas.Bool.Decides.{nat_tests}
 use Rattle.std.proofs.lemmas.Cmp.{nat_list_cmp_total}
-use Rattle.std.proofs.lemmas.Map.Steps.{length-le_from_keys}
 use Rattle.std.proofs.lemmas.Map.Views.{Contains-keys_from_lookup}
-use Rattle.simplex.specs.InOrder.{is_increasing, in_order}
+use Rattle.simplex.specs.InOrder.{is_increasing}
 use Rattle.simplex.specs.Simplex.{has, is_same, is_simplex, is_within, simplex_cmp, subset_at}
 use Rattle.simplex.proofs.Decided.{agree, equal_at, equal_from, false_from, not_from}
 use Rattle.simplex.proofs.Filled.{rising_of}
 use Rattle.simplex.proofs.InOrderLaws.{and_left, and_right, and_both, is_increasing-in_order}
-use Rattle.simplex.proofs.Members.{In, first, none, cases, any_at, any_from, all_at, in_filter, from_filter, contains_in, is_member_at, is_member_from, in_order_in, from_in_order, same_sets}
+use Rattle.simplex.proofs.Members.{In, first, none, any_at, any_from, all_at, in_filter, from_filter, contains_in, is_member_at, is_member_from, in_order_in, from_in_order, same_sets}
 use Rattle.simplex.proofs.SimplexLaws.{in_within, has_at, has_from, same_labels, within_itself}
 use Rattle.simplex.proofs.SubsetLaws.{number_of}
 use Rattle.facet_set.specs.Complex.{is_complex, is_face, is_maximal_in, is_proper_face, stands_in}

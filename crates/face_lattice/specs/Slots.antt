@@ -1,5 +1,5 @@
 -- Faces, their ids and the slots of the ids.
-use Rattle.std.specs.Prelude.{◌≡◌, ◌==◌, ℕ, ◌+◌, ◌-◌, ◌%◌, ◌^◌, ◌<◌, ◌≤◌, ◌&&◌, true, false, if◌then◌else◌, List, [], length, Option, Some, None, IsSome, IfSome, IsSomeAnd, not, slice_index_or}
+use Rattle.std.specs.Prelude.{map, ◌≡◌, ◌==◌, ℕ, ◌+◌, ◌-◌, ◌%◌, ◌^◌, ◌<◌, ◌≤◌, ◌&&◌, Bool, true, false, if◌then◌else◌, List, [], length, Option, Some, None, IsSome, IfSome, IsSomeAnd, not, slice_index_or}
 use Rattle.std.specs.Option.{option_map}
 use Rattle.std.specs.Map.{lookup}
 use Rattle.face_lattice.specs.Cells.{FaceCell, blank, kept_at, same}
@@ -7,7 +7,7 @@ use Rattle.std.specs.List.{filter}
 use Rattle.std.specs.Ordering.{nat_cmp}
 use Rattle.simplex.specs.InOrder.{put}
 use Rattle.simplex.specs.Simplex.{has, is_simplex, is_within, subset_at}
-use Rattle.face_lattice.specs.States.{CellState, first_cell, emptied, shown, put_more, put_less, has_degree, HasRoom}
+use Rattle.face_lattice.specs.States.{CellState, first_cell, renewed, shown, put_more, put_less, has_degree, is_idle, is_busy, asked, HasRoom}
 use Rattle.face_lattice.specs.declared.slot.Slot.{Slot}
 
 -- the slot of an id that there is not
@@ -20,7 +20,7 @@ first_slot s = record { face = s; used = true; cell = first_cell }
 
 -- a slot that a face begins to use
 abbrev pub started : List ℕ → Slot → Slot
-started s old = record { face = s; used = true; cell = emptied old.cell }
+started s old = record { face = s; used = true; cell = renewed old.cell }
 
 -- a slot that no face uses any more
 abbrev pub ended : Slot → Slot
@@ -51,6 +51,7 @@ pub record IsFirst (s : List ℕ) (old new : List Slot) (i : ℕ) : Type 0 where
   pub led : IsLed new s i
   pub degree : (slice_index_or new i no_slot).cell.degree ≡ 0
   pub up : (slice_index_or new i no_slot).cell.up ≡ []
+  pub askers : (slice_index_or new i no_slot).cell.askers ≡ []
   pub unused : (slice_index_or old i no_slot).used ≡ false
 
 -- the slots in use stay as they are
@@ -83,6 +84,49 @@ abbrev pub or_blank : Option FaceCell → FaceCell
 or_blank None = blank
 or_blank (Some cell) = cell
 
+-- the ids that ask for a face
+abbrev pub asked_at : SlabState → List ℕ → List ℕ
+asked_at v s = asked (cell_at v s)
+
+-- what is seen of a cell: nothing at degree 0
+abbrev pub seen : Option FaceCell → Option FaceCell
+seen None = None
+seen (Some c) = if c.degree == 0 then None else Some c
+
+-- what is seen of the cells is what is to be kept at the faces of the facets, and blank cells have no link vertices
+pub record AreCellsOf (c : List (List ℕ)) (cells : List ℕ → Option CellState) : Type 0 where
+  pub seen : (t : List ℕ) → seen (option_map shown (cells t)) ≡ kept_at c t
+  pub blank : (t : List ℕ) → IfSome (cells t) (λ x. x.degree ≡ 0 → x.up ≡ [])
+
+-- each face that has an id with the ids that ask for it
+abbrev pub askers_of : SlabState → List (List ℕ × List ℕ)
+askers_of v = map (λ e. (e.0, (slice_index_or v.slots e.1 no_slot).cell.askers)) v.ids
+
+-- an id in use
+abbrev pub IsUsed : SlabState → ℕ → Type 0
+IsUsed v i = (s : List ℕ) × (id_of v s ≡ Some i)
+
+-- whether that is the id
+abbrev pub is_some_id : ℕ → Option ℕ → Bool
+is_some_id i None = false
+is_some_id i (Some j) = i == j
+
+-- each cell that nobody needs was one before
+abbrev pub HasNoMoreIdle : SlabState → SlabState → Type 0
+HasNoMoreIdle old new = (s : List ℕ) → is_idle (cell_at new s) ≡ true → is_idle (cell_at old s) ≡ true
+
+-- no face changes, there is room where there was, and no cell that nobody needs is new
+pub record Keeps (old new : SlabState) : Type 0 where
+  pub cells : (c : List (List ℕ)) → AreCellsOf c (cell_at old) → AreCellsOf c (cell_at new)
+  pub room : (t f : List ℕ) → IsSomeAnd (cell_at old t) (HasRoom f t) → IsSomeAnd (cell_at new t) (HasRoom f t)
+  pub idle : HasNoMoreIdle old new
+
+-- who asks for what stays, and what somebody needs keeps its id
+pub record Lasting (old new : SlabState) : Type 0 where
+  pub asked : (s : List ℕ) → asked_at new s ≡ asked_at old s
+  pub ids : (s : List ℕ) → is_busy (cell_at old s) ≡ true → id_of new s ≡ id_of old s
+  pub busy : (s : List ℕ) → is_busy (cell_at old s) ≡ true → is_busy (cell_at new s) ≡ true
+
 -- each id leads to where it led, and each cell is as it was
 abbrev pub Stays : SlabState → SlabState → Type 0
 Stays old new = (t : List ℕ) → IsSome (id_of old t) → (id_of new t ≡ id_of old t) × (cell_at new t ≡ cell_at old t)
@@ -112,6 +156,11 @@ pub record AreNoted (v : SlabState) (facet : List ℕ) (gap : ℕ) (ids : List �
   pub below : (k : ℕ) → k < 2 ^ length facet → spread gap k < length ids
   pub at : (k : ℕ) → k < 2 ^ length facet → IsNoted v (subset_at facet k) (slice_index_or ids (spread gap k) 0)
 
+-- the same where an id may be missing, as it is where the map has none
+pub record AreFound (v : SlabState) (facet : List ℕ) (gap : ℕ) (ids : List (Option ℕ)) : Type 0 where
+  pub below : (k : ℕ) → k < 2 ^ length facet → spread gap k < length ids
+  pub at : (k : ℕ) → k < 2 ^ length facet → slice_index_or ids (spread gap k) None ≡ id_of v (subset_at facet k)
+
 -- at each face of the facet there is room for these labels among its link vertices
 abbrev pub IsReady : SlabState → List ℕ → List ℕ → Type 0
 IsReady v facet labels = (k : ℕ) → k < 2 ^ length facet → IfSome (cell_at v (subset_at facet k)) (HasRoom labels (subset_at facet k))
@@ -128,11 +177,6 @@ after_more facet s cell = if is_simplex s && is_within s facet then Some (put_mo
 abbrev pub put_blank : List ℕ → List ℕ → Option FaceCell → FaceCell
 put_blank facet s cell = or_blank cell
 
--- what is seen of a cell: nothing at degree 0
-abbrev pub seen : Option FaceCell → Option FaceCell
-seen None = None
-seen (Some c) = if c.degree == 0 then None else Some c
-
 -- the labels of the facet that make with s a face of this degree
 abbrev pub beside : ℕ → List ℕ → (List ℕ → Option CellState) → List ℕ → List ℕ
 beside n facet cells s = filter (λ x. not (has s x) && has_degree n (cells (put nat_cmp x s))) facet
@@ -145,15 +189,10 @@ after_less facet cells s = if is_simplex s && is_within s facet then Some (put_l
 abbrev pub ArePresent : SlabState → List ℕ → Type 0
 ArePresent v facet = (k : ℕ) → k < 2 ^ length facet → IsSomeAnd (cell_at v (subset_at facet k)) (λ c. 0 < c.degree)
 
--- what is kept, unless its degree is 0
-abbrev pub unless_blank : Option CellState → Option CellState
-unless_blank cell = if has_degree 0 cell then None else cell
+-- what is kept, unless nobody needs it
+abbrev pub unless_idle : Option CellState → Option CellState
+unless_idle cell = if is_idle cell then None else cell
 
--- what is kept at s after the blank cells of the subsets of the outer set were given back
+-- what is kept at s after the idle cells of the subsets of the outer set were given back
 abbrev pub after_put_back : List ℕ → List ℕ → Option CellState → Option CellState
-after_put_back outer s cell = if is_simplex s && is_within s outer then unless_blank cell else cell
-
--- what is seen of the cells is what is to be kept at the faces of the facets, and blank cells have no link vertices
-pub record AreCellsOf (c : List (List ℕ)) (cells : List ℕ → Option CellState) : Type 0 where
-  pub seen : (t : List ℕ) → seen (option_map shown (cells t)) ≡ kept_at c t
-  pub blank : (t : List ℕ) → IfSome (cells t) (λ x. x.degree ≡ 0 → x.up ≡ [])
+after_put_back outer s cell = if is_simplex s && is_within s outer then unless_idle cell else cell

@@ -6,10 +6,11 @@ ghost use Rattle.face_lattice.specs.Lattice.{all_but};
 
 use crate::cell::Cell;
 use crate::labels::labels_of;
-use crate::passes::{find, insert_facet, lower, put_back, raise, remove_facet};
+use crate::passes::{find, gather, insert_facet, lower, put_back, raise, remove_facet};
 use crate::room::{drop_each, ready_each};
 use crate::slab::Slab;
 use facet_set::Facets;
+use packed_keys::Key;
 use simplex::{LEN_LIMIT, Memory, Simplex, Simplices, Steps};
 use std::alloc::Global;
 use std::marker::{Brand, Model};
@@ -29,24 +30,26 @@ pub struct Lattice {
 impl Model for Lattice {
     ghost use Rattle.std.specs.Prelude.{vec_capacity};
     ghost use Rattle.face_lattice.specs.Lattice.{LatticeState, facets_in, IsLattice};
+    ghost use Rattle.face_lattice.specs.Slots.{askers_of};
 
     ghost Value = { LatticeState };
 
-    ghost view = { λ l. record { facets = facets_in l.slab; room = l.members.items; changes = l.changes } };
+    ghost view = { λ l. record { facets = facets_in l.slab; room = l.members.items; changes = l.changes; ids = l.slab.ids; askers = askers_of l.slab } };
 
     ghost invariant = { λ l. IsLattice l.slab l.counts l.members.items (vec_capacity l.places) };
 }
 
 impl Lattice {
-    ghost use Rattle.std.specs.Prelude.{◌≡◌, ◌+◌, ◌^◌, ◌↔◌, ◌<◌, ◌≤◌, ◌&&◌, not, false, [], ◌∷◌, IfOk, IsOk, OnErr, OnOk, IsSome, IsTrue, length, slice_get, if◌then◌else◌};
+    ghost use Rattle.std.specs.Prelude.{◌≡◌, ◌+◌, ◌^◌, ◌↔◌, ◌<◌, ◌≤◌, ◌&&◌, not, false, true, [], ◌∷◌, ◌++◌, ℕ, List, Some, IfOk, IsOk, OnErr, OnOk, IsSome, IsTrue, length, slice_get, if◌then◌else◌};
     ghost use Rattle.std.specs.List.{list_all, list_any};
     ghost use Rattle.std.specs.Option.{option_copied};
     ghost use Rattle.simplex.specs.InOrder.{put};
-    ghost use Rattle.simplex.specs.Simplex.{is_simplex, is_within, simplex_cmp};
+    ghost use Rattle.simplex.specs.Simplex.{is_simplex, is_within, simplex_cmp, without};
     ghost use Rattle.facet_set.specs.Complex.{is_face, stands_in, verts};
     ghost use Rattle.facet_set.specs.Flips.{link_vertices};
     ghost use Rattle.facet_set.specs.Numbers.{degree, face_count, faces_of_size, size};
-    ghost use Rattle.face_lattice.specs.Lattice.{all_but, risen};
+    ghost use Rattle.face_lattice.specs.Lattice.{all_but, askers_in, has_id, id_in, id_of_part, is_held, is_outer, risen, AreIdsNeeded, AreIdsOf, AreIdsWithin, Lacks, Holds, IsId};
+    ghost use Rattle.face_lattice.specs.Cells.{same};
 
     /// The lattice of a complex, with no room and no change.
     pub fn of(alloc: Global, c: &Facets) -> Result<Lattice, Memory>
@@ -63,6 +66,7 @@ impl Lattice {
         ensures err { OnErr result (self.new.room ≡ []) }
         ensures facets { self.new.facets ≡ self.old.facets }
         ensures changes { self.new.changes ≡ self.old.changes }
+        ensures holds { Holds self.old self.new }
     {
         self.clear_room();
         let alloc = *self.places.allocator();
@@ -86,6 +90,7 @@ impl Lattice {
         ensures room { self.new.room ≡ (if stands_in self.old.room f.now then all_but f.now self.old.room else []) }
         ensures changes { OnOk result (self.new.changes ≡ risen self.old.changes) }
         ensures unchanged { OnErr result (self.new.changes ≡ self.old.changes) }
+        ensures holds { Holds self.old self.new }
         ensures steps { OnOk result (steps.new ≡ steps.old + 2 ^ length f.now) }
         ensures few { OnErr result (steps.new ≡ steps.old) }
     {
@@ -101,10 +106,185 @@ impl Lattice {
         ensures facets { self.new.facets ≡ all_but f.now self.old.facets }
         ensures room { self.new.room ≡ [] }
         ensures changes { self.new.changes ≡ risen self.old.changes }
+        ensures holds { Holds self.old self.new }
         ensures steps { steps.new ≡ steps.old + 2 ^ length f.now }
     {
         self.clear_room();
         self.take_out(f, steps);
+    }
+
+    /// One asker more of a simplex, by its id. The simplex has an id then. At an `Err` nothing changes.
+    pub fn ask(&mut self, b: &Simplex, asker: u32) -> Result<(), Memory>
+        ensures asked { OnOk result ((s : List ℕ) → askers_in self.new s ≡ (if same b.now s then askers_in self.old s ++ asker ∷ [] else askers_in self.old s)) }
+        ensures err { OnErr result ((s : List ℕ) → askers_in self.new s ≡ askers_in self.old s) }
+        ensures ids { (s : List ℕ) → IsSome (id_in self.old s) → id_in self.new s ≡ id_in self.old s }
+        ensures facets { self.new.facets ≡ self.old.facets }
+        ensures room { self.new.room ≡ self.old.room }
+        ensures changes { self.new.changes ≡ self.old.changes }
+    {
+        self.slab.ask(&Key::of(b), asker)
+    }
+
+    /// The same of the simplex with this id.
+    pub fn ask_at(&mut self, id: u32, asker: u32) -> Result<(), Memory>
+        requires { IsId self.old id }
+        ensures asked { OnOk result ((s : List ℕ) → askers_in self.new s ≡ (if has_id self.old s id then askers_in self.old s ++ asker ∷ [] else askers_in self.old s)) }
+        ensures err { OnErr result ((s : List ℕ) → askers_in self.new s ≡ askers_in self.old s) }
+        ensures ids { self.new.ids ≡ self.old.ids }
+        ensures facets { self.new.facets ≡ self.old.facets }
+        ensures room { self.new.room ≡ self.old.room }
+        ensures changes { self.new.changes ≡ self.old.changes }
+    {
+        self.slab.ask_at(id, asker)
+    }
+
+    /// This asker of a simplex asks no more. No room is left. It takes no memory.
+    pub fn unask(&mut self, b: &Simplex, asker: u32)
+        ensures asked { (s : List ℕ) → askers_in self.new s ≡ (if same b.now s then without (askers_in self.old s) asker else askers_in self.old s) }
+        ensures ids { (s : List ℕ) → is_held self.new s ≡ true → id_in self.new s ≡ id_in self.old s }
+        ensures facets { self.new.facets ≡ self.old.facets }
+        ensures room { self.new.room ≡ [] }
+        ensures changes { self.new.changes ≡ self.old.changes }
+    {
+        self.clear_room();
+        self.dismiss(&Key::of(b), asker);
+    }
+
+    /// The same of the simplex with this id.
+    pub fn unask_at(&mut self, id: u32, asker: u32)
+        requires { IsId self.old id }
+        ensures asked { (s : List ℕ) → askers_in self.new s ≡ (if has_id self.old s id then without (askers_in self.old s) asker else askers_in self.old s) }
+        ensures ids { (s : List ℕ) → is_held self.new s ≡ true → id_in self.new s ≡ id_in self.old s }
+        ensures facets { self.new.facets ≡ self.old.facets }
+        ensures room { self.new.room ≡ [] }
+        ensures changes { self.new.changes ≡ self.old.changes }
+    {
+        if self.members.is_empty() {
+            self.dismiss_at(id, asker);
+            return;
+        }
+        let face = self.simplex_of(id);
+        self.unask(&face, asker);
+    }
+
+    /// The id of a simplex that has one.
+    pub fn id(&self, s: &Simplex) -> Option<u32>
+        ensures value { result ≡ id_in self.now s.now }
+        ensures needed { AreIdsNeeded self.now }
+    {
+        self.slab.id(&Key::of(s))
+    }
+
+    /// The ids of the parts of an outer set of up to 13 labels, in the order of their numbers: bit k of a number stands for the
+    /// label at the place k.
+    pub fn ids_of(&self, outer: &[u32], ids: &mut Vec<Option<u32>>) -> Result<(), Memory>
+        requires { IsTrue (is_outer outer.now) }
+        ensures ids { OnOk result (AreIdsOf self.now outer.now ids.new.items) }
+        ensures needed { AreIdsNeeded self.now }
+    {
+        let _ = &self.slab;
+        ids.clear();
+        for mask in 0..1u32 << outer.len() {
+            ids.push(self.id_of_part(outer, mask))?;
+        }
+        Ok(())
+    }
+
+    /// The simplex with this id.
+    pub fn simplex_of(&self, id: u32) -> Simplex
+        requires { IsId self.now id }
+        ensures value { (s : List ℕ) → id_in self.now s ≡ Some id → result ≡ s }
+        ensures simplex { IsTrue (is_simplex result) }
+    {
+        self.slab.slot(id).face.simplex()
+    }
+
+    /// How many facets contain the simplex with this id.
+    pub fn degree_of(&self, id: u32) -> usize
+        requires { IsId self.now id }
+        ensures { (s : List ℕ) → id_in self.now s ≡ Some id → result ≡ degree self.now.facets s }
+    {
+        let slot = self.slab.slot(id);
+        prove!(slot.face.len() <= LEN_LIMIT);
+        slot.cell.degree()
+    }
+
+    /// The labels that the facets with the simplex with this id have beside its own, in increasing order.
+    pub fn up_of(&self, id: u32) -> &[u32]
+        requires { IsId self.now id }
+        ensures { (s : List ℕ) → id_in self.now s ≡ Some id → result.now ≡ link_vertices self.now.facets s }
+    {
+        let slot = self.slab.slot(id);
+        prove!(slot.face.len() <= LEN_LIMIT);
+        slot.cell.up()
+    }
+
+    /// The ids that ask for the simplex with this id.
+    pub fn askers_of(&self, id: u32) -> &[u32]
+        requires { IsId self.now id }
+        ensures { (s : List ℕ) → id_in self.now s ≡ Some id → result.now ≡ askers_in self.now s }
+    {
+        self.slab.slot(id).cell.askers()
+    }
+
+    /// The same as `insert_facet` for a simplex for which there is room, and that lacks the label at a place of the outer set whose ids
+    /// these are. It looks nothing up.
+    pub fn insert_noted<L: Ledger>(
+        &mut self,
+        f: &Simplex,
+        outer: &[u32],
+        place: usize,
+        ids: &[Option<u32>],
+        steps: &mut Steps<L>,
+    )
+        requires new { is_face self.old.facets f.now ≡ false }
+        requires above { list_any (λ s. is_within s f.now) self.old.facets ≡ false }
+        requires room { IsTrue (stands_in self.old.room f.now) }
+        requires outer { IsTrue (is_outer outer.now) }
+        requires part { Lacks outer.now place f.now }
+        requires noted { AreIdsWithin self.old outer.now ids.now f.now }
+        ensures facets { self.new.facets ≡ put simplex_cmp f.now self.old.facets }
+        ensures room { self.new.room ≡ all_but f.now self.old.room }
+        ensures changes { self.new.changes ≡ risen self.old.changes }
+        ensures holds { Holds self.old self.new }
+        ensures ids { self.new.ids ≡ self.old.ids }
+        ensures steps { steps.new ≡ steps.old + 2 ^ length f.now }
+    {
+        let gap = 1 << f.len();
+        gather(&self.slab, f, 1 << place, ids, &mut self.places);
+        raise(&mut self.counts, &self.slab, f, gap, &self.places);
+        insert_facet(&mut self.slab, f, gap, &self.places, steps);
+        forget(&mut self.members, f);
+        self.changes = self.changes.saturating_add(1);
+    }
+
+    /// The same as `remove_facet` for a facet that lacks the label at a place of the outer set whose ids these are. It looks nothing
+    /// up where there is no room.
+    pub fn remove_noted<L: Ledger>(
+        &mut self,
+        f: &Simplex,
+        outer: &[u32],
+        place: usize,
+        ids: &[Option<u32>],
+        steps: &mut Steps<L>,
+    )
+        requires facet { IsTrue (stands_in self.old.facets f.now) }
+        requires room { self.old.room ≡ [] }
+        requires outer { IsTrue (is_outer outer.now) }
+        requires part { Lacks outer.now place f.now }
+        requires noted { AreIdsWithin self.old outer.now ids.now f.now }
+        ensures facets { self.new.facets ≡ all_but f.now self.old.facets }
+        ensures room { self.new.room ≡ [] }
+        ensures changes { self.new.changes ≡ risen self.old.changes }
+        ensures holds { Holds self.old self.new }
+        ensures steps { steps.new ≡ steps.old + 2 ^ length f.now }
+    {
+        let gap = 1 << f.len();
+        gather(&self.slab, f, 1 << place, ids, &mut self.places);
+        remove_facet(&mut self.slab, f, gap, &self.places, steps);
+        lower(&mut self.counts, &self.slab, f, gap, &self.places);
+        put_back(&mut self.slab, f, &self.places);
+        self.changes = self.changes.saturating_add(1);
     }
 
     /// How many facets came or went since the lattice was made, or the last u64 where that is less.
@@ -141,7 +321,7 @@ impl Lattice {
         ensures value { result ≡ stands_in self.now.facets s.now }
         ensures simplices { IsTrue (list_all is_simplex self.now.facets) }
     {
-        match self.slab.get(s) {
+        match self.slab.cell_of(s) {
             Some(cell) => cell.is_of_facet(),
             None => false,
         }
@@ -159,7 +339,7 @@ impl Lattice {
         ensures value { result ≡ degree self.now.facets s.now }
         ensures none { (result ≡ 0) ↔ (is_face self.now.facets s.now ≡ false) }
     {
-        match self.slab.get(s) {
+        match self.slab.cell_of(s) {
             Some(cell) => cell.degree(),
             None => 0,
         }
@@ -170,7 +350,7 @@ impl Lattice {
         ensures value { result ≡ length (link_vertices self.now.facets s.now) }
         ensures none { is_face self.now.facets s.now ≡ false → result ≡ 0 }
     {
-        match self.slab.get(s) {
+        match self.slab.cell_of(s) {
             Some(cell) => cell.up().len(),
             None => 0,
         }
@@ -181,7 +361,7 @@ impl Lattice {
         ensures value { result ≡ slice_get (link_vertices self.now.facets s.now) k }
         ensures variant { IsSome result ↔ (k < length (link_vertices self.now.facets s.now)) }
     {
-        match self.slab.get(s) {
+        match self.slab.cell_of(s) {
             Some(cell) => label_at(cell, k),
             None => None,
         }
@@ -200,7 +380,7 @@ impl Lattice {
     {
         let mut faces = self.slab.faces_of_size(size)?;
         faces.sort_unstable();
-        Ok(Simplices::from_vec(faces))
+        Ok(Simplices::from_vec(unpacked(*faces.allocator(), &faces)?))
     }
 
     // Whether a facet lies in the simplex.
@@ -235,6 +415,7 @@ impl Lattice {
         ensures facets { self.new.facets ≡ self.old.facets }
         ensures room { self.new.room ≡ self.old.room }
         ensures changes { self.new.changes ≡ 0 }
+        ensures holds { Holds self.old self.new }
     {
         self.changes = 0;
     }
@@ -253,6 +434,7 @@ impl Lattice {
         ensures err { OnErr result (self.new.room ≡ []) }
         ensures facets { self.new.facets ≡ self.old.facets }
         ensures changes { self.new.changes ≡ self.old.changes }
+        ensures holds { Holds self.old self.new }
     {
         if self.has_room(f) {
             return Ok(());
@@ -260,14 +442,52 @@ impl Lattice {
         self.reserve(&[*f])
     }
 
+    // The id of the part of an outer set with this number.
+    fn id_of_part(&self, outer: &[u32], number: u32) -> Option<u32>
+        requires outer { IsTrue (is_outer outer.now) }
+        requires number { number < 2 ^ length outer.now }
+        ensures { result ≡ id_of_part self.now outer.now number }
+    {
+        if outer.len() > LEN_LIMIT && number + 1 == 1 << outer.len() {
+            return None;
+        }
+        self.slab.id(&Key::among(outer, number))
+    }
+
     // Gives the cells back that were kept for simplices to come.
     fn clear_room(&mut self)
         ensures facets { self.new.facets ≡ self.old.facets }
         ensures room { self.new.room ≡ [] }
         ensures changes { self.new.changes ≡ self.old.changes }
+        ensures holds { Holds self.old self.new }
     {
         drop_each(&mut self.slab, &self.members);
         self.members.clear();
+    }
+
+    // This asker of a simplex asks no more, where there is no room.
+    fn dismiss(&mut self, b: &Key, asker: u32)
+        requires { self.old.room ≡ [] }
+        ensures asked { (s : List ℕ) → askers_in self.new s ≡ (if same b.now s then without (askers_in self.old s) asker else askers_in self.old s) }
+        ensures ids { (s : List ℕ) → is_held self.new s ≡ true → id_in self.new s ≡ id_in self.old s }
+        ensures facets { self.new.facets ≡ self.old.facets }
+        ensures room { self.new.room ≡ self.old.room }
+        ensures changes { self.new.changes ≡ self.old.changes }
+    {
+        self.slab.unask(b, asker);
+    }
+
+    // The same of the simplex with this id.
+    fn dismiss_at(&mut self, id: u32, asker: u32)
+        requires id { IsId self.old id }
+        requires room { self.old.room ≡ [] }
+        ensures asked { (s : List ℕ) → askers_in self.new s ≡ (if has_id self.old s id then without (askers_in self.old s) asker else askers_in self.old s) }
+        ensures ids { (s : List ℕ) → is_held self.new s ≡ true → id_in self.new s ≡ id_in self.old s }
+        ensures facets { self.new.facets ≡ self.old.facets }
+        ensures room { self.new.room ≡ self.old.room }
+        ensures changes { self.new.changes ≡ self.old.changes }
+    {
+        self.slab.unask_at(id, asker);
     }
 
     // Makes room for these simplices, whose labels these are.
@@ -278,6 +498,7 @@ impl Lattice {
         ensures err { OnErr result (self.new.room ≡ []) }
         ensures facets { self.new.facets ≡ self.old.facets }
         ensures changes { self.new.changes ≡ self.old.changes }
+        ensures holds { Holds self.old self.new }
     {
         match ready_each(&mut self.slab, &members, labels, &mut self.places) {
             Ok(()) => {
@@ -299,6 +520,7 @@ impl Lattice {
         ensures facets { self.new.facets ≡ put simplex_cmp f.now self.old.facets }
         ensures room { self.new.room ≡ all_but f.now self.old.room }
         ensures changes { self.new.changes ≡ risen self.old.changes }
+        ensures holds { Holds self.old self.new }
         ensures steps { steps.new ≡ steps.old + 2 ^ length f.now }
     {
         let gap = 1 << f.len();
@@ -316,6 +538,7 @@ impl Lattice {
         ensures facets { self.new.facets ≡ all_but f.now self.old.facets }
         ensures room { self.new.room ≡ [] }
         ensures changes { self.new.changes ≡ risen self.old.changes }
+        ensures holds { Holds self.old self.new }
         ensures steps { steps.new ≡ steps.old + 2 ^ length f.now }
     {
         let gap = 1 << f.len();
@@ -345,6 +568,17 @@ fn of_facets<L: Ledger>(alloc: Global, facets: &[Simplex], blank: Blank) -> Resu
     }
     lattice.count_anew();
     Ok(lattice)
+}
+
+// The simplices unpacked.
+fn unpacked(alloc: Global, keys: &[Key]) -> Result<Vec<Simplex>, Memory>
+    ensures { IfOk result (λ v. v.items ≡ keys.now) }
+{
+    let mut list = Vec::with_capacity(alloc, keys.len())?;
+    for key in keys {
+        list.push(key.simplex())?;
+    }
+    Ok(list)
 }
 
 // Takes the simplex out of the list.

@@ -1,13 +1,14 @@
 // Passes over the faces of a facet, by ids that were looked up once.
-ghost use Rattle.std.specs.Prelude.{◌≡◌, ◌<◌, ◌≤◌, ◌+◌, ◌^◌, ◌&&◌, not, false, ℕ, List, OnOk, IsSome, IfSome, length, slice_index_or, vec_capacity};
-ghost use Rattle.simplex.specs.Simplex.{has, subset_at};
+ghost use Rattle.std.specs.Prelude.{◌≡◌, ◌<◌, ◌≤◌, ◌+◌, ◌^◌, ◌&&◌, not, false, ℕ, List, OnOk, IsSome, IfSome, IsTrue, length, slice_index_or, vec_capacity};
+ghost use Rattle.simplex.specs.Simplex.{has, is_simplex, is_within, subset_at};
 ghost use Rattle.std.specs.Ordering.{nat_cmp};
 ghost use Rattle.simplex.specs.InOrder.{put};
-ghost use Rattle.face_lattice.specs.States.{has_degree, HasRoom};
+ghost use Rattle.face_lattice.specs.States.{has_degree, is_idle, HasRoom};
 ghost use Rattle.face_lattice.specs.Counts.{blank_count};
-ghost use Rattle.face_lattice.specs.Slots.{id_of, cell_at, kept, after_more, after_less, after_put_back, beside, AreCellsOf, ArePresent, AreNoted, AreNumbered, IsNoted, spread, AreFew, IsReady, KeepsIds, Stays};
+ghost use Rattle.face_lattice.specs.Slots.{id_of, cell_at, kept, after_more, after_less, after_put_back, beside, AreCellsOf, AreFound, ArePresent, AreNoted, AreNumbered, IsNoted, spread, AreFew, IsReady, KeepsIds, Stays, asked_at, HasNoMoreIdle, Lasting};
 
 use crate::slab::Slab;
+use packed_keys::Key;
 use simplex::{Memory, Simplex, Steps};
 use std::sync::ledger::Ledger;
 
@@ -15,12 +16,14 @@ use std::sync::ledger::Ledger;
 pub fn note(slab: &mut Slab, outer: &Simplex, ids: &mut Vec<u32>) -> Result<(), Memory>
     ensures noted { OnOk result (AreNumbered slab.new outer.now ids.new.items) }
     ensures cells { (c : List (List ℕ)) → AreCellsOf c (cell_at slab.old) → AreCellsOf c (cell_at slab.new) }
+    ensures lasts { Lasting slab.old slab.new }
     ensures stays { Stays slab.old slab.new }
+    ensures idle { (t : List ℕ) → is_within t outer.now ≡ false → is_idle (cell_at slab.new t) ≡ is_idle (cell_at slab.old t) }
     ensures capacity { vec_capacity ids.old ≤ vec_capacity ids.new }
 {
     ids.clear();
     for mask in 0..1u32 << outer.len() {
-        let id = slab.make(&outer.subset(mask))?;
+        let id = slab.make(&Key::subset(outer, mask))?;
         ids.push(id)?;
     }
     Ok(())
@@ -37,7 +40,25 @@ pub fn find(slab: &Slab, outer: &Simplex, ids: &mut Vec<u32>)
     prove!(slab.len() <= usize::MAX);
     ids.clear();
     for mask in 0..1u32 << outer.len() {
-        let id = slab.id(&outer.subset(mask)).unwrap();
+        let id = slab.id(&Key::subset(outer, mask)).unwrap();
+        ids.push(id).unwrap();
+    }
+}
+
+/// The same for a facet whose ids stand among those of an outer set with one label more. It looks nothing up.
+pub fn gather(slab: &Slab, facet: &Simplex, gap: u32, found: &[Option<u32>], ids: &mut Vec<u32>)
+    requires some { 0 < gap }
+    requires found { AreFound slab.now facet.now gap found.now }
+    requires there { (k : ℕ) → k < 2 ^ length facet.now → IsSome (id_of slab.now (subset_at facet.now k)) }
+    requires fits { 2 ^ 12 ≤ vec_capacity ids.old }
+    ensures noted { AreNumbered slab.now facet.now ids.new.items }
+    ensures capacity { vec_capacity ids.old ≤ vec_capacity ids.new }
+    ensures few { length slab.now.ids < 2 ^ 63 }
+{
+    prove!(slab.len() <= usize::MAX);
+    ids.clear();
+    for mask in 0..1u32 << facet.len() {
+        let id = found[(mask + (mask - mask % gap)) as usize].unwrap();
         ids.push(id).unwrap();
     }
 }
@@ -53,6 +74,7 @@ pub fn make_ready(
     requires { AreNoted slab.old facet.now gap ids.now }
     ensures ids { KeepsIds slab.old slab.new }
     ensures kept { (t : List ℕ) → kept slab.new t ≡ kept slab.old t }
+    ensures asked { (t : List ℕ) → asked_at slab.new t ≡ asked_at slab.old t }
     ensures ready { OnOk result (IsReady slab.new facet.now labels.now) }
     ensures stays { (t f s : List ℕ) → IfSome (cell_at slab.old t) (HasRoom f s) → IfSome (cell_at slab.new t) (HasRoom f s) }
 {
@@ -136,22 +158,26 @@ pub fn remove_facet<L: Ledger>(
     }
 }
 
-/// Takes the subsets of the outer set out that are no faces, so that their ids are free for others. It takes no memory.
+/// Takes the subsets of the outer set out whose cells nobody needs, so that their ids are free for others. It takes no memory.
 pub fn put_back(slab: &mut Slab, outer: &Simplex, ids: &[u32])
     requires { AreNumbered slab.old outer.now ids.now }
-    ensures { (t : List ℕ) → cell_at slab.new t ≡ after_put_back outer.now t (cell_at slab.old t) }
+    ensures lasts { Lasting slab.old slab.new }
+    ensures cells { (t : List ℕ) → cell_at slab.new t ≡ after_put_back outer.now t (cell_at slab.old t) }
 {
     for mask in 0..1u32 << outer.len() {
-        slab.put_back_blank(ids[mask as usize]);
+        slab.put_back_idle(ids[mask as usize]);
     }
 }
 
 /// The same by look-ups, for each subset that has an id.
-pub fn drop_blanks(slab: &mut Slab, outer: &Simplex)
-    ensures { (c : List (List ℕ)) → AreCellsOf c (cell_at slab.old) → AreCellsOf c (cell_at slab.new) }
+pub fn drop_idle(slab: &mut Slab, outer: &Simplex)
+    ensures lasts { Lasting slab.old slab.new }
+    ensures fewer { HasNoMoreIdle slab.old slab.new }
+    ensures gone { (t : List ℕ) → IsTrue (is_simplex t) → IsTrue (is_within t outer.now) → is_idle (cell_at slab.new t) ≡ false }
+    ensures cells { (c : List (List ℕ)) → AreCellsOf c (cell_at slab.old) → AreCellsOf c (cell_at slab.new) }
 {
     for mask in 0..1u32 << outer.len() {
-        slab.drop_blank(&outer.subset(mask));
+        slab.drop_idle(&Key::subset(outer, mask));
     }
 }
 

@@ -3,20 +3,21 @@ ghost use Rattle.face_lattice.specs.States.{shown, more, less, HasRoom};
 ghost use Rattle.face_lattice.specs.Slots.{started, first_slot, ended, with_cell};
 
 use crate::cell::Cell;
+use packed_keys::Key;
 use simplex::{Memory, Simplex};
 use std::alloc::Global;
 
 /// What an id has: a cell, and while it is in use the face whose cell it is.
 #[derive(Drop)]
 pub struct Slot {
-    pub face: Simplex,
+    pub face: Key,
     pub used: bool,
     pub cell: Cell,
 }
 
 impl Slot {
     /// A slot of this face, with a blank cell.
-    pub fn first(alloc: Global, face: Simplex) -> Slot
+    pub fn first(alloc: Global, face: Key) -> Slot
         ensures { result ≡ first_slot face }
     {
         Slot {
@@ -27,12 +28,12 @@ impl Slot {
     }
 
     /// Makes it the slot of this face, with a blank cell.
-    pub fn start(&mut self, face: Simplex)
+    pub fn start(&mut self, face: Key)
         ensures { self.new ≡ started face self.old }
     {
         self.face = face;
         self.used = true;
-        self.cell.clear();
+        self.cell.renew();
     }
 
     /// Gives the slot back.
@@ -48,6 +49,7 @@ impl Slot {
         ensures same { shown self.new.cell ≡ shown self.old.cell }
         ensures ok { OnOk result (HasRoom labels.now self.old.face self.new.cell) }
         ensures capacity { self.old.cell.capacity ≤ self.new.cell.capacity }
+        ensures asked { self.new.cell.askers ≡ self.old.cell.askers }
     {
         self.cell.make_ready(&self.face, labels)
     }

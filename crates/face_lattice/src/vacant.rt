@@ -3,10 +3,11 @@ ghost use Rattle.std.specs.Prelude.{◌≡◌, ℕ, ◌+◌, ◌<◌, ◌≤◌,
 ghost use Rattle.face_lattice.specs.Slots.{no_slot, IsFirst, KeepsUsed};
 
 use crate::slot::Slot;
-use simplex::{Memory, Simplex};
+use packed_keys::Key;
+use simplex::Memory;
 
 /// An id that no face uses becomes that of this face. There is room in `free` for each id.
-pub fn take(slots: &mut Vec<Slot>, free: &mut Vec<u32>, face: Simplex) -> Result<u32, Memory>
+pub fn take(slots: &mut Vec<Slot>, free: &mut Vec<u32>, face: Key) -> Result<u32, Memory>
     requires { vec_len slots.old ≤ vec_capacity free.old }
     ensures slot { IfOk result (IsFirst face slots.old.items slots.new.items) }
     ensures kept { KeepsUsed slots.old.items slots.new.items }
@@ -21,7 +22,7 @@ pub fn take(slots: &mut Vec<Slot>, free: &mut Vec<u32>, face: Simplex) -> Result
 }
 
 // The id that was given back last, where there is one.
-fn reused(slots: &mut Vec<Slot>, free: &mut Vec<u32>, face: Simplex) -> Option<u32>
+fn reused(slots: &mut Vec<Slot>, free: &mut Vec<u32>, face: Key) -> Option<u32>
     requires { vec_len slots.old ≤ vec_capacity free.old }
     ensures slot { IfSome result (IsFirst face slots.old.items slots.new.items) }
     ensures kept { KeepsUsed slots.old.items slots.new.items }
@@ -41,7 +42,7 @@ fn reused(slots: &mut Vec<Slot>, free: &mut Vec<u32>, face: Simplex) -> Option<u
 }
 
 // An id that there was not, with room for its way back.
-fn added(slots: &mut Vec<Slot>, free: &mut Vec<u32>, face: Simplex) -> Result<u32, Memory>
+fn added(slots: &mut Vec<Slot>, free: &mut Vec<u32>, face: Key) -> Result<u32, Memory>
     requires { vec_len slots.old ≤ vec_capacity free.old }
     ensures slot { IfOk result (IsFirst face slots.old.items slots.new.items) }
     ensures kept { KeepsUsed slots.old.items slots.new.items }

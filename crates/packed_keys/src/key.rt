@@ -40,7 +40,7 @@ impl Model for Key {
 
 impl Key {
     ghost use Rattle.std.specs.Prelude.{◌≡◌, ◌≤◌, ◌==◌, [], ◌∷◌, ◌++◌, length, slice_get, IsTrue};
-    ghost use Rattle.simplex.specs.Simplex.{is_simplex, subset_at};
+    ghost use Rattle.simplex.specs.Simplex.{has, is_simplex, subset_at};
 
     /// The simplex with no label.
     pub const EMPTY: Key = Key {
@@ -129,6 +129,19 @@ impl Key {
         } else {
             None
         }
+    }
+
+    /// Whether the label is in the simplex.
+    #[inline]
+    pub fn has(&self, label: u32) -> bool
+        ensures { result ≡ has self.now label }
+    {
+        for k in 0..self.len() {
+            if self.label(k) == label {
+                return true;
+            }
+        }
+        false
     }
 
     /// The simplex unpacked.

@@ -8,7 +8,7 @@ use Rattle.std.specs.Ordering.{is_lt, match_ordering, ordering_reverse}
 use Rattle.std.specs.declared.cmp.Ordering.{Ordering}
 use Rattle.std.specs.declared.cmp.Ordering.TheVariants.{Less, Equal, Greater}
 use Rattle.std.proofs.lemmas.Cmp.{nat_list_cmp_total, tied_itself}
-use Rattle.std.proofs.lemmas.List.{set_split, take_more_set, drop-set-lt, nil_from_length, length-set, take_all, get_or_read, get_or_append_left, get_or-append-add, drop_all}
+use Rattle.std.proofs.lemmas.List.{set_split, take_more, take_more_set, drop-set-lt, nil_from_length, length-set, take_all, get_or_read, get_or_append_left, get_or-append-add, drop_all}
 use Rattle.std.proofs.lemmas.List.Edits.{remove-append_left, remove-append_right}
 use Rattle.std.proofs.lemmas.List.Sorted.{searchable_from_sorted}
 use Rattle.std.proofs.lemmas.Bool.{cases_lt}
@@ -16,7 +16,7 @@ use Rattle.simplex.specs.InOrder.{is_increasing, is_member, put}
 use Rattle.simplex.proofs.Decided.{false_from}
 use Rattle.simplex.specs.Simplex.{simplex_cmp}
 use Rattle.simplex.proofs.InOrderLaws.{and_left, and_right, and_both, is_increasing-put, less_is}
-use Rattle.ranked_set.proofs.SearchLaws.{exact, sorted, not_below_itself, member_from, member_at}
+use Rattle.ranked_set.proofs.SearchLaws.{exact, sorted, not_below_itself, member_from, member_at, in_place}
 use Rattle.simplex.proofs.Members.{In, first, cases, none, contains_in, in_contains, all_at, all_from, in_left, in_right, in_either}
 use Rattle.ranked_set.specs.Blocks.{joined, are_below, is_filled, IsRanked}
 
@@ -446,3 +446,22 @@ joined_next bs i list more b next h e f g n =
 
 pub take_rest : {X : Type 0} (n : ℕ) (xs : List X) → take (length xs - n) (drop n xs) ≡ drop n xs
 take_rest n xs = take_all (length xs - n) (drop n xs) (omega (arith, length-drop n xs))
+
+-- ---- the next of an increasing list
+before_next : (xs : List (List ℕ)) (i : ℕ) → is_increasing simplex_cmp xs ≡ true → i < length xs → are_below (get_or xs i []) (take i xs) ≡ true
+before_next [] i h l = absurd (omega arith)
+before_next (x ∷ xs) zero h l = refl
+before_next (x ∷ xs) (suc i) h l =
+    let below : is_lt (simplex_cmp x (get_or xs i [])) ≡ true = all_at (λ y. is_lt (simplex_cmp x y)) (get_or xs i []) xs (and_left _ _ h) (in_place xs i (get_or xs i []) (omega (arith, l)) refl) in
+    and_both _ _ below (before_next xs i (and_right (list_all (λ y. is_lt (simplex_cmp x y)) xs) _ h) (omega (arith, l)))
+
+module _ (xs now : List (List ℕ)) (i : ℕ) (s : List ℕ) (up : is_increasing simplex_cmp xs ≡ true) (l : i < length xs) (e : s ≡ get_or xs i []) (f : now ≡ take i xs) where
+  next_below : are_below s (take i xs) ≡ true
+  next_below = ap (λ t. are_below t (take i xs)) e ∙ before_next xs i up l
+
+  pub next_absent : is_member simplex_cmp s now ≡ false
+  next_absent = ap (is_member simplex_cmp s) f ∙ false_from (is_member simplex_cmp s (take i xs)) (λ t. not_below_itself s (all_at (λ t. is_lt (simplex_cmp t s)) s (take i xs) next_below (member_at s (take i xs) t)))
+
+  pub next_put : put simplex_cmp s now ≡ take (i + 1) xs
+  next_put =
+      ap (put simplex_cmp s) (f ∙ sym (append-nil (take i xs))) ∙ put_past s (take i xs) [] next_below ∙ ap (λ t. take i xs ++ t ∷ []) e ∙ sym (take_more xs i [] l)

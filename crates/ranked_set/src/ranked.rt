@@ -9,8 +9,8 @@ use crate::blocks::{Block, excess, fill_pool, find_in, make_room, place_in, put_
 use packed_keys::Key;
 use simplex::{Memory, Simplex, Steps};
 use std::alloc::Global;
-use std::marker::Model;
-use std::sync::ledger::Ledger;
+use std::marker::{Brand, Model};
+use std::sync::ledger::{Blank, Ledger};
 
 // The most blocks of a set and its pool (own).
 const COUNT_LIMIT: usize = 1 << 56;
@@ -48,6 +48,15 @@ impl RankedSet {
             len: 0,
             changes: 0,
         }
+    }
+
+    /// The set of the simplices of an increasing list, put in one after another.
+    pub fn of(alloc: Global, list: &[Simplex]) -> Result<RankedSet, Memory>
+        requires { is_increasing simplex_cmp list.now ≡ true }
+        ensures members { IfOk result (λ r. r.members ≡ list.now) }
+        ensures changes { IfOk result (λ r. r.changes ≡ risen 0 (length list.now)) }
+    {
+        filled::<Brand>(alloc, list, Blank::new(1))
     }
 
     /// Makes room for so many insertions. An `Err` changes nothing, and makes no room smaller.
@@ -151,4 +160,22 @@ impl RankedSet {
         }
         Ok(list)
     }
+}
+
+// The set of the list, with a counter of its own, which nobody reads.
+fn filled<L: Ledger>(alloc: Global, list: &[Simplex], blank: Blank) -> Result<RankedSet, Memory>
+    requires name { blank.name ≡ L.name }
+    requires parts { blank.parts ≡ L.parts }
+    requires some { 0 < L.parts }
+    requires increasing { is_increasing simplex_cmp list.now ≡ true }
+    ensures members { IfOk result (λ r. r.members ≡ list.now) }
+    ensures changes { IfOk result (λ r. r.changes ≡ risen 0 (length list.now)) }
+{
+    let mut steps = Steps::<L>::open(blank);
+    let mut set = RankedSet::new(alloc);
+    set.reserve(list.len())?;
+    for s in list {
+        set.insert(s, &mut steps);
+    }
+    Ok(set)
 }

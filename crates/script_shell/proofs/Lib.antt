@@ -1,3 +1,4 @@
+pub mod Answering
 pub mod BenchLaws
 pub mod BenchReading
 pub mod BenchStack

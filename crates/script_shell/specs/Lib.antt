@@ -1,3 +1,4 @@
+pub mod Answering
 pub mod Bench
 pub mod Commands
 pub mod Edits

@@ -39,6 +39,16 @@ is_form NoForm = false
 abbrev pub has_form : List (List ℕ) → Bool
 has_form words = is_form (form_of words)
 
+-- whether the words are `run`
+abbrev pub is_run_form : Form → Bool
+is_run_form Run = true
+is_run_form Replay = false
+is_run_form (Bench d n seed) = false
+is_run_form NoForm = false
+
+abbrev pub is_run : List (List ℕ) → Bool
+is_run words = is_run_form (form_of words)
+
 -- whether the words have the input read
 abbrev pub form_reads : Form → Bool
 form_reads Run = true

@@ -76,6 +76,11 @@ abbrev pub replies : Run → List (List ℕ) → List ℕ → List ℕ
 replies r [] rest = rest_text r rest
 replies r (p ∷ ps) rest = piece_text r p ++ replies (after_piece r p) ps rest
 
+-- what is written for the pieces alone
+abbrev pub answers : Run → List (List ℕ) → List ℕ
+answers r [] = []
+answers r (p ∷ ps) = piece_text r p ++ answers (after_piece r p) ps
+
 -- whether a piece or the rest is refused, from this run on
 abbrev pub refuses : Run → List (List ℕ) → List ℕ → Bool
 refuses r [] rest = not (is_blank rest)
@@ -88,6 +93,10 @@ start = record { count = 0; state = [] }
 -- what is written for a whole script
 unfoldable pub transcript : List ℕ → List ℕ
 transcript bytes = let ps = cut_from false bytes in replies start ps.ended ps.rest
+
+-- what is written for the pieces of some bytes that a ; ends, whatever bytes follow
+unfoldable pub answered : List ℕ → List ℕ
+answered bytes = answers start (cut_from false bytes).ended
 
 -- whether a piece of a script is refused
 unfoldable pub is_refusing : List ℕ → Bool

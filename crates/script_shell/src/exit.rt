@@ -1,6 +1,10 @@
 ghost use Rattle.std.specs.Prelude.{◌≡◌};
 ghost use Rattle.script_shell.specs.Exits.{exit_code};
 
+use crate::stream::ReadEnd;
+use run_ends::SinkFault;
+use std::alloc::AllocError;
+
 /// How a run ended. The ends and their statuses are own.
 #[derive(Clone, Copy, Debug, PartialEq, Eq)]
 pub enum Exit {
@@ -33,6 +37,46 @@ impl Exit {
             Exit::ReadFault => 4,
             Exit::WriteFault => 5,
             Exit::TooLong => 6,
+        }
+    }
+}
+
+impl From<AllocError> for Exit {
+    ghost use Rattle.std.specs.Prelude.{◌≡◌};
+    ghost use Rattle.script_shell.specs.declared.exit.Exit.TheVariants.{Memory};
+
+    ghost from_gives = { λ _ e. e ≡ Memory };
+
+    fn from(_: AllocError) -> Exit {
+        Exit::Memory
+    }
+}
+
+impl From<ReadEnd> for Exit {
+    ghost use Rattle.std.specs.Prelude.{◌≡◌};
+    ghost use Rattle.script_shell.specs.Answering.{read_exit};
+
+    ghost from_gives = { λ end e. e ≡ read_exit end };
+
+    fn from(end: ReadEnd) -> Exit {
+        match end {
+            ReadEnd::Failed => Exit::ReadFault,
+            ReadEnd::TooLong => Exit::TooLong,
+            ReadEnd::Memory => Exit::Memory,
+        }
+    }
+}
+
+impl From<SinkFault> for Exit {
+    ghost use Rattle.std.specs.Prelude.{◌≡◌};
+    ghost use Rattle.script_shell.specs.Answering.{sink_exit};
+
+    ghost from_gives = { λ fault e. e ≡ sink_exit fault };
+
+    fn from(fault: SinkFault) -> Exit {
+        match fault {
+            SinkFault::Failed => Exit::WriteFault,
+            SinkFault::Memory => Exit::Memory,
         }
     }
 }

@@ -5,6 +5,7 @@ mod asking;
 mod bench;
 mod changing;
 mod constructing;
+mod conversation;
 mod counting;
 mod deciding;
 mod edited;
@@ -27,7 +28,7 @@ mod transcript;
 mod words;
 
 pub use exit::Exit;
-pub use laws::{bench_refuses_nothing, sound_transcripts_replay};
+pub use laws::{answers_stay, bench_refuses_nothing, sound_transcripts_replay};
 pub use limits::Limits;
 pub use reply::Reply;
 pub use run::{run_program, run_surely};

@@ -1,4 +1,4 @@
-ghost use Rattle.std.specs.Prelude.{◌≡◌, ◌≤◌, ◌<◌, ◌+◌, ◌++◌, ◌↔◌, ℕ, List, [], ◌∷◌, false, true, length, map, IfOk, OnOk, IfSome};
+ghost use Rattle.std.specs.Prelude.{◌≡◌, ◌≤◌, ◌<◌, ◌+◌, ◌++◌, ◌↔◌, ◌⊎◌, Some, ℕ, List, [], ◌∷◌, false, true, length, map, IfOk, OnOk, IfSome};
 ghost use Rattle.std.specs.String.{string_bytes};
 ghost use Rattle.run_ends.specs.Counts.{Rose};
 ghost use Rattle.run_ends.specs.Ends.{AtEnd, Grows};
@@ -6,14 +6,16 @@ ghost use Rattle.script_shell.specs.Exits.{IsOneOf};
 ghost use Rattle.replay_report.specs.Report.{replay_text, refuses_part};
 ghost use Rattle.script_shell.specs.Bench.{bench_script, bench_text};
 ghost use Rattle.script_shell.specs.InVain.{FormInVain, OutputInVain, ScriptInVain};
-ghost use Rattle.script_shell.specs.Output.{form_output, form_refuses, has_form, is_form, reads_input, output, refusing, usage_text};
+ghost use Rattle.script_shell.specs.Output.{form_output, form_refuses, has_form, is_form, is_run, is_run_form, reads_input, output, refusing, usage_text};
 ghost use Rattle.script_shell.specs.Replays.{FormReplays, OutputReplays, Replays};
-ghost use Rattle.script_shell.specs.Streams.{GrowsByFront, Gave, input_limit};
+ghost use Rattle.script_shell.specs.Streams.{GrowsByFront, GrowsPast, Gave, before_last, input_limit};
+ghost use Rattle.script_shell.specs.Transcript.{answered};
 
 use crate::bench::bench;
+use crate::conversation::converse;
 use crate::exit::Exit;
 use crate::stream::{ReadEnd, read_all, send};
-use crate::transcript::{Answers, transcript};
+use crate::transcript::Answers;
 use crate::words::{Form, form_of};
 use replay_report::replay_all;
 use run_ends::{Sink, SinkFault, Source, SureSink, SureSource};
@@ -21,7 +23,8 @@ use simplex::Memory;
 use std::alloc::Global;
 
 /// Does all that the program does, by the words after its name. `run` writes the transcript of the
-/// input, and `replay` the report on the certificates in it; the input has at most 16,777,216 bytes.
+/// input, each reply before it reads on, and `replay` the report on the certificates in it; the input has at most
+/// 16,777,216 bytes.
 /// `bench D N SEED` reads no input, and writes how a run of its own goes. For words of no form the
 /// usage line is written. The words and the limits are own.
 pub fn run_program<S: Source, K: Sink>(
@@ -95,6 +98,26 @@ pub fn run_program<S: Source, K: Sink>(
         × Gave (S.left source.old) (S.left source.new) (S.taken source.old) (S.taken source.new) bytes
         × GrowsByFront (K.written sink.old) (K.written sink.new) (output (map string_bytes words.now) bytes) }
 
+    // `run` answers command by command. At a failed read just the answers to the whole commands that the source gave are written,
+    ensures answered { is_run (map string_bytes words.now) ≡ true → result ≡ Exit.ReadFault
+        → (bytes : List ℕ)
+        × Gave (S.left source.old) (S.left source.new) (S.taken source.old) (S.taken source.new) bytes
+        × Grows (K.written sink.old) (K.written sink.new) (answered bytes) }
+    // and at each other early end at least those to what it gave before its last 65,536 bytes.
+    ensures answered_before { is_run (map string_bytes words.now) ≡ true
+        → IsOneOf result (Exit.Memory ∷ Exit.WriteFault ∷ Exit.TooLong ∷ [])
+        → (bytes : List ℕ)
+        × Gave (S.left source.old) (S.left source.new) (S.taken source.old) (S.taken source.new) bytes
+        × GrowsPast (K.written sink.old) (K.written sink.new) (answered (before_last bytes)) }
+    // What no `;` ends is answered at the end of the source alone.
+    ensures whole_commands { is_run (map string_bytes words.now) ≡ true
+        → IsOneOf result (Exit.Memory ∷ Exit.ReadFault ∷ Exit.WriteFault ∷ Exit.TooLong ∷ [])
+        → (bytes : List ℕ)
+        × Gave (S.left source.old) (S.left source.new) (S.taken source.old) (S.taken source.new) bytes
+        × (GrowsByFront (K.written sink.old) (K.written sink.new) (answered bytes)
+        ⊎ (AtEnd (S.left source.new)
+        × GrowsByFront (K.written sink.old) (K.written sink.new) (output (map string_bytes words.now) bytes))) }
+
     // Where no count of faults rises and no more comes than the limit, the output is written, or memory is wanting.
     ensures complete { has_form (map string_bytes words.now) ≡ true
         → S.taken source.new ≤ S.taken source.old + input_limit
@@ -105,7 +128,8 @@ pub fn run_program<S: Source, K: Sink>(
 {
     let form = form_of(words);
     match form {
-        Form::Run | Form::Replay => match read_all(alloc, source) {
+        Form::Run => converse(alloc, source, sink),
+        Form::Replay => match read_all(alloc, source) {
             Ok(bytes) => write_output(alloc, form, &bytes, sink),
             Err(ReadEnd::Failed) => Exit::ReadFault,
             Err(ReadEnd::TooLong) => Exit::TooLong,
@@ -144,15 +168,20 @@ pub fn run_surely(
     ensures usage_complete { has_form (map string_bytes words.now) ≡ false
         → IsOneOf result (Exit.Usage ∷ Exit.Memory ∷ []) }
     ensures too_long { result ≡ Exit.TooLong → input_limit < length source.old.left }
+    ensures answered_before { is_run (map string_bytes words.now) ≡ true → IsOneOf result (Exit.Memory ∷ Exit.TooLong ∷ [])
+        → (bytes : List ℕ)
+        × (source.old.left ≡ bytes ++ source.new.left)
+        × GrowsPast (Some sink.old.written) (Some sink.new.written) (answered (before_last bytes)) }
     ensures ends { IsOneOf result (Exit.Done ∷ Exit.Refused ∷ Exit.Usage ∷ Exit.Memory ∷ Exit.TooLong ∷ []) }
 {
     run_program(alloc, words, source, sink)
 }
 
-// Writes the output of words of a form.
+// Writes the output of words of a form but `run`.
 fn write_output<K: Sink>(alloc: Global, form: Form, bytes: &[u8], sink: &mut K) -> Exit
     requires unfinished { K.finished sink.old ≡ false }
     requires form { is_form form ≡ true }
+    requires other { is_run_form form ≡ false }
     ensures kind { IsOneOf result (Exit.Done ∷ Exit.Refused ∷ Exit.Memory ∷ Exit.WriteFault ∷ []) }
     ensures written { IsOneOf result (Exit.Done ∷ Exit.Refused ∷ []) → Grows (K.written sink.old) (K.written sink.new) (form_output form bytes.now) }
     ensures done { result ≡ Exit.Done → form_refuses form bytes.now ≡ false }
@@ -179,19 +208,19 @@ fn write_output<K: Sink>(alloc: Global, form: Form, bytes: &[u8], sink: &mut K) 
     }
 }
 
-// The output of words of a form.
+// The output of words of a form but `run`.
 fn answers_to(alloc: Global, form: Form, bytes: &[u8]) -> Result<Answers, Memory>
-    requires { is_form form ≡ true }
+    requires form { is_form form ≡ true }
+    requires other { is_run_form form ≡ false }
     ensures text { IfOk result (λ a. a.text ≡ form_output form bytes.now) }
     ensures refusing { IfOk result (λ a. a.refusing ≡ form_refuses form bytes.now) }
     ensures replays { OnOk result (FormReplays form bytes.now) }
     ensures in_vain { OnOk result (FormInVain form bytes.now) }
 {
     match form {
-        Form::Run => transcript(alloc, bytes),
         Form::Replay => replayed(alloc, bytes),
         Form::Bench { d, n, seed } => benched(alloc, d, n, seed),
-        Form::NoForm => unreachable!(),
+        Form::Run | Form::NoForm => unreachable!(),
     }
 }
 

@@ -1,5 +1,6 @@
-ghost use Rattle.std.specs.Prelude.{◌≡◌, ◌<◌, ◌+◌, ◌-◌, ◌^◌, ◌++◌, ◌||◌, [], not, false, length, take, drop, OnOk, IfOk, IfSome, IfNone};
+ghost use Rattle.std.specs.Prelude.{◌≡◌, ◌<◌, ◌≤◌, ◌+◌, ◌-◌, ◌^◌, ◌++◌, ◌||◌, [], not, false, length, take, drop, OnOk, IfOk, IfSome, IfNone};
 ghost use Rattle.script_text.specs.Reading.{command_of};
+ghost use Rattle.script_shell.specs.Answering.{comment_after};
 ghost use Rattle.script_shell.specs.InVain.{InVainIn, PieceInVain, ScriptInVain};
 ghost use Rattle.script_shell.specs.Limits.{standard};
 ghost use Rattle.script_shell.specs.Replays.{AreSound, Replays, certificate_in, piece_certificate};
@@ -46,27 +47,43 @@ fn piece_len(bytes: &[u8]) -> Option<usize>
     ensures uncut { IfNone result (cut_from false bytes.now ≡ record { ended = []; rest = bytes.now }) }
 {
     let mut comment = false;
+    piece_end(&mut comment, bytes)
+}
+
+/// How many bytes there are before the first `;` outside comments. The flag says whether the byte before them belongs to a
+/// comment, and then whether the last byte that was looked at does.
+pub fn piece_end(comment: &mut bool, bytes: &[u8]) -> Option<usize>
+    ensures within { IfSome result (λ n. n < length bytes.now) }
+    ensures cut { IfSome result (λ n.
+        cut_from comment.old bytes.now ≡ before_others (take n bytes.now) (cut_from false (drop (n + 1) bytes.now))) }
+    ensures uncut { IfNone result (cut_from comment.old bytes.now ≡ record { ended = []; rest = bytes.now }) }
+    ensures outside { IfSome result (λ _. comment.new ≡ false) }
+    ensures after { IfSome result (λ n. comment_after comment.old bytes.now ≡ comment_after false (drop (n + 1) bytes.now)) }
+    ensures goes_on { IfNone result (comment.new ≡ comment_after comment.old bytes.now) }
+{
     for (at, byte) in bytes.iter().enumerate() {
-        comment = is_in_comment(comment, *byte);
-        if *byte == b';' && !comment {
+        let inside = is_in_comment(*comment, *byte);
+        *comment = inside;
+        if *byte == b';' && !inside {
             return Some(at);
         }
     }
     None
 }
 
-// A run so far: the shell, how many commands had a number, what was written, and whether something was refused.
+/// A run so far: the shell, how many commands had a number, what is not yet written, and whether something was refused.
 #[derive(Drop)]
-struct Session {
-    alloc: Global,
-    shell: Shell,
-    count: u64,
-    text: Text,
-    refusing: bool,
+pub struct Session {
+    pub alloc: Global,
+    pub shell: Shell,
+    pub count: u64,
+    pub text: Text,
+    pub refusing: bool,
 }
 
 impl Session {
-    fn new(alloc: Global) -> Session
+    /// The run before the first piece, within the limits of the program.
+    pub fn new(alloc: Global) -> Session
         ensures shell { result.shell ≡ ([], standard) }
         ensures count { result.count ≡ 0 }
         ensures text { result.text ≡ [] }
@@ -81,11 +98,12 @@ impl Session {
         }
     }
 
-    // Answers a piece, where it is not blank.
-    fn answer(&mut self, piece: &[u8]) -> Result<(), Memory>
+    /// Answers a piece, where it is not blank.
+    pub fn answer(&mut self, piece: &[u8]) -> Result<(), Memory>
         requires standard { self.old.shell.1 ≡ standard }
         requires count { self.old.count < 2 ^ 64 - 1 }
         ensures standard { OnOk result (self.new.shell.1 ≡ standard) }
+        ensures count { OnOk result (self.new.count ≤ self.old.count + 1) }
         ensures run { OnOk result (record { count = self.new.count; state = self.new.shell.0 }
             ≡ after_piece (record { count = self.old.count; state = self.old.shell.0 }) piece.now) }
         ensures text { OnOk result (self.new.text
@@ -105,8 +123,8 @@ impl Session {
         Ok(())
     }
 
-    // Refuses the rest behind the last `;`, where it is not blank.
-    fn answer_rest(&mut self, rest: &[u8]) -> Result<(), Memory>
+    /// Refuses the rest behind the last `;`, where it is not blank.
+    pub fn answer_rest(&mut self, rest: &[u8]) -> Result<(), Memory>
         requires count { self.old.count < 2 ^ 64 - 1 }
         ensures text { OnOk result (self.new.text
             ≡ self.old.text ++ rest_text (record { count = self.old.count; state = self.old.shell.0 }) rest.now) }

@@ -1,176 +1,119 @@
 -- A command is found from its tokens.
-use Rattle.std.proofs.Common.{◌≡◌, ℕ, Bool, true, false, cond, List, [], ◌∷◌, ◌++◌, map, drop, refl, sym, ap, ◌∙◌, Option, Some, None, append_assoc, append-nil, option_and_then}
-use Rattle.std.specs.Prelude.{◌==◌, find, slice_get, unwrap_or}
+use Rattle.std.proofs.Common.{◌≡◌, ℕ, Bool, true, false, cond, List, [], ◌∷◌, ◌++◌, map, refl, sym, ap, ◌∙◌, Option, Some, None, option_and_then, IfSome, IsNone}
+use Rattle.std.specs.Prelude.{find, flat_map}
 use Rattle.std.specs.Option.{option_map}
-use Rattle.std.proofs.lemmas.Bool.Decides.{nat_tests}
-use Rattle.std.proofs.Common.{arith}
 use Rattle.std.specs.Cmp.Lexicographic.{bytes_decides}
-use Rattle.simplex.proofs.InOrderLaws.{and_left, and_right, and_both}
-use Rattle.simplex.proofs.Decided.{equal_itself}
+use Rattle.plain_text.specs.Bytes.{is_text}
 use Rattle.script_text.specs.declared.token.Token.{Token}
-use Rattle.script_text.specs.declared.token.Token.TheVariants.{Word, Number, Assign, Open, Close, Comma}
+use Rattle.script_text.specs.declared.token.Token.TheVariants.{Word, Assign}
+use Rattle.script_text.specs.declared.form.Part.{Part}
+use Rattle.script_text.specs.declared.form.Part.TheVariants as part
+use Rattle.script_text.specs.declared.form.Form.{Form}
+use Rattle.script_text.specs.declared.form.Form.TheVariants.{Alone, One, Two, Three, Four}
 use Rattle.script_text.specs.declared.command.Command.{Command}
 use Rattle.script_text.specs.declared.command.Command.TheVariants as command
 use Rattle.script_text.specs.declared.command.Maker.{Maker}
 use Rattle.script_text.specs.declared.command.Maker.TheVariants as maker
-use Rattle.script_text.specs.Methods.{method_of, method_word, methods}
-use Rattle.script_text.specs.declared.method.Method.{Method}
 use Rattle.script_text.specs.declared.command.Question.TheVariants as question
 use Rattle.script_text.specs.declared.command.Edit.TheVariants as edit
-use Rattle.script_text.specs.declared.verb.Verb.{Verb}
-use Rattle.script_text.specs.Grammar.{with_commas, closed, list, lists, maker_tokens, command_tokens}
+use Rattle.script_text.specs.Fronts.{before, AreNormal, NoneIs}
+use Rattle.script_text.specs.Grammar.{parts_of, part_tokens, form_tokens, target, target_tokens, maker_form, command_form, command_tokens}
+use Rattle.script_text.specs.Forms.{makers_with, commands_with, form_word, maker_word, command_word, maker_by, command_from}
 use Rattle.script_text.specs.Laws.{ReadsTheSpelled, SpelledApart}
-use Rattle.script_text.specs.Parts.{before, number, word, NoneBegins, NoneIs}
-use Rattle.script_text.proofs.PartLaws.{before_before, behind}
-use Rattle.script_text.specs.Reading.{same_token, same_tokens, numbers_in, lists_in, word_in, built, NoneBuilt, made, spoken, NoneSpoken, guess, checked, command_in, command_of}
-use Rattle.plain_text.specs.Bytes.{is_text}
+use Rattle.script_text.specs.Reading.{form_of, command_in, command_of}
 use Rattle.script_text.specs.Tokens.{tokens}
-use Rattle.script_text.specs.Verbs.{verb_of, verb_word, verbs}
+use Rattle.script_text.proofs.PartLaws.{behind}
+use Rattle.script_text.proofs.PlaceLaws.{normal, normal_itself, form_again, form_only, spelled_once}
 
-text_same : (v : List ℕ) → is_text v v ≡ true
-text_same v = (bytes_decides v v).1 refl
+-- ---- from forms to what is found
+-- the form with another word
+abbrev with_word : List ℕ → Form → Form
+with_word v (Alone a) = Alone a
+with_word v (One w a) = One v a
+with_word v (Two w a b) = Two v a b
+with_word v (Three w a b c) = Three v a b c
+with_word v (Four w a b c d) = Four v a b c d
 
-number_of : (m n : ℕ) → (m == n) ≡ true → m ≡ n
-number_of m n h = grind (arith, nat_tests)
+word_same : (f : Form) → with_word (form_word f) f ≡ f
+word_same (Alone a) = refl
+word_same f = refl
 
-token_same : (t : Token) → same_token t t ≡ true
-token_same (Word v) = text_same v
-token_same (Number n) = equal_itself n
-token_same Assign = refl
-token_same Open = refl
-token_same Close = refl
-token_same Comma = refl
+-- what is found by its word has the tokens of the parts, where each has them but for its word
+found_by : {X : Type 0} (spell : X → List Token) (word : X → List ℕ) (f : Form) (xs : List X)
+    → map spell xs ≡ map (λ x. form_tokens (with_word (word x) f)) xs
+    → (x : X) → find (λ x. is_text (form_word f) (word x)) xs ≡ Some x → spell x ≡ form_tokens f
+found_by spell word f [] e x h = cc
+found_by {X} spell word f (y ∷ ys) e x h = either (found_by spell word f ys there x) (is_text (form_word f) (word y)) refl h
+  where
+    here : spell y ≡ form_tokens (with_word (word y) f)
+    here = cc
 
-tokens_same : (ts : List Token) → same_tokens ts ts ≡ true
-tokens_same [] = refl
-tokens_same (t ∷ ts) = and_both (same_token t t) (same_tokens ts ts) (token_same t) (tokens_same ts)
+    there : map spell ys ≡ map (λ x. form_tokens (with_word (word x) f)) ys
+    there = cc
 
-token_one : (t u : Token) → same_token t u ≡ true → t ≡ u
-token_one (Word v) (Word w) h = ap Word ((bytes_decides v w).0 h)
-token_one (Number m) (Number n) h = ap Number (number_of m n h)
-token_one Assign Assign h = refl
-token_one Open Open h = refl
-token_one Close Close h = refl
-token_one Comma Comma h = refl
-token_one t u h = cc
+    either : (find (λ x. is_text (form_word f) (word x)) ys ≡ Some x → spell x ≡ form_tokens f) → (v : Bool) → is_text (form_word f) (word y) ≡ v → cond v (Some y) (find (λ x. is_text (form_word f) (word x)) ys) ≡ Some x → spell x ≡ form_tokens f
+    either later true t k =
+        let g : y ≡ x = cc in
+        ap spell (sym g) ∙ here ∙ ap (λ w. form_tokens (with_word w f)) (sym ((bytes_decides (form_word f) (word y)).0 t)) ∙ ap form_tokens (word_same f)
+    either later false t k = later k
 
-tokens_one : (ts us : List Token) → same_tokens ts us ≡ true → ts ≡ us
-tokens_one [] [] h = refl
-tokens_one (t ∷ ts) (u ∷ us) h =
-    let p = token_one t u (and_left (same_token t u) (same_tokens ts us) h) in
-    let q = tokens_one ts us (and_right (same_token t u) (same_tokens ts us) h) in
-    cc (p, q)
-tokens_one [] (u ∷ us) h = cc
-tokens_one (t ∷ ts) [] h = cc
+-- ---- the table: what stands in a row has the form that the row says, a line for each kind of form
+makers_same : (f : Form) → map (λ m. form_tokens (maker_form m)) (makers_with f) ≡ map (λ m. form_tokens (with_word (maker_word m) f)) (makers_with f)
+makers_same (Alone (part.List [])) = refl
+makers_same (One w (part.Name x)) = refl
+makers_same (Two w (part.Name x) (part.List [])) = refl
+makers_same (Two w (part.Number k) (part.Number n)) = refl
+makers_same (Three w (part.Number d) (part.Number n) (part.Number seed)) = refl
+makers_same (Three w (part.Name x) (part.List a) (part.List b)) = refl
+makers_same (Four w (part.Name x) (part.List a) (part.Name y) (part.List b)) = refl
+makers_same f = refl
 
--- ---- the guess
-numbers_closed : (ns : List ℕ) (us : List Token) → numbers_in (closed (map number ns) ++ us) ≡ (ns, (numbers_in us).1)
-numbers_closed [] us = refl
-numbers_closed (n ∷ []) us = refl
-numbers_closed (n ∷ m ∷ ns) us = ap (λ (r : List ℕ × List (List ℕ)). (n ∷ r.0, r.1)) (numbers_closed (m ∷ ns) us)
+commands_same : (f : Form) → map command_tokens (commands_with f) ≡ map (λ c. form_tokens (with_word (command_word c) f)) (commands_with f)
+commands_same (One w (part.List [])) = refl
+commands_same (Two w (part.Name x) (part.Number k)) = refl
+commands_same (Three w (part.Name x) (part.List a) (part.List b)) = refl
+commands_same (Three w (part.Name x) (part.Number budget) (part.Number seed)) = refl
+commands_same (Four w (part.Name x) (part.Name y) (part.Number budget) (part.Number seed)) = refl
+commands_same f = refl
 
-list_found : (ns : List ℕ) (us : List Token) → numbers_in (list ns ++ us) ≡ ([], ns ∷ (numbers_in us).1)
-list_found ns us = ap (λ (r : List ℕ × List (List ℕ)). ([], r.0 ∷ r.1)) (numbers_closed ns us)
-
-closed_found : (ls : List (List ℕ)) (us : List Token) → numbers_in (closed (map list ls) ++ us) ≡ ([], ls ++ (numbers_in us).1)
-closed_found [] us = refl
-closed_found (l ∷ []) us = ap numbers_in (append_assoc (list l) (Close ∷ []) us) ∙ list_found l (Close ∷ us)
-closed_found (l ∷ k ∷ ls) us =
-    ap numbers_in (ap (λ ts. ts ++ us) (append_assoc (list l) (Comma ∷ with_commas (map list (k ∷ ls))) (Close ∷ [])) ∙ append_assoc (list l) (Comma ∷ closed (map list (k ∷ ls))) us)
-    ∙ list_found l (Comma ∷ closed (map list (k ∷ ls)) ++ us)
-    ∙ ap (λ (r : List ℕ × List (List ℕ)). ([], l ∷ r.1)) (closed_found (k ∷ ls) us)
-
-lists_found : (ls : List (List ℕ)) (us : List Token) → numbers_in (lists ls ++ us) ≡ ([], [] ∷ (ls ++ (numbers_in us).1))
-lists_found ls us = ap (λ (r : List ℕ × List (List ℕ)). ([], r.0 ∷ r.1)) (closed_found ls us)
-
-lists_taken : (ls : List (List ℕ)) → lists_in (lists ls) ≡ ls
-lists_taken ls = ap (λ ts. drop 1 (numbers_in ts).1) (sym (append-nil (lists ls))) ∙ ap (λ (r : List ℕ × List (List ℕ)). drop 1 r.1) (lists_found ls []) ∙ append-nil ls
-
-one_taken : (a : List ℕ) → (numbers_in (list a)).1 ≡ a ∷ []
-one_taken a = ap (λ ts. (numbers_in ts).1) (sym (append-nil (list a))) ∙ ap (λ (r : List ℕ × List (List ℕ)). r.1) (list_found a [])
-
-two_taken : (a b : List ℕ) → (numbers_in (list a ++ list b)).1 ≡ a ∷ b ∷ []
-two_taken a b = ap (λ (r : List ℕ × List (List ℕ)). r.1) (list_found a (list b)) ∙ ap (λ l. a ∷ l) (one_taken b)
-
-apart_taken : (a y b : List ℕ) → (numbers_in (list a ++ Word y ∷ list b)).1 ≡ a ∷ b ∷ []
-apart_taken a y b = ap (λ (r : List ℕ × List (List ℕ)). r.1) (list_found a (Word y ∷ list b)) ∙ ap (λ l. a ∷ l) (one_taken b)
-
--- no word is in a list
-word_closed : (ns : List ℕ) (us : List Token) → word_in (closed (map number ns) ++ us) ≡ word_in us
-word_closed [] us = refl
-word_closed (n ∷ []) us = refl
-word_closed (n ∷ m ∷ ns) us = word_closed (m ∷ ns) us
-
--- what is made of one list
-abbrev of_one : {X : Type 0} → (List ℕ → X) → List (List ℕ) → X
-of_one f ls = f (unwrap_or (slice_get ls 0) [])
-
--- what is made of two lists
-abbrev of_two : {X : Type 0} → (List ℕ → List ℕ → X) → List (List ℕ) → X
-of_two f ls = f (unwrap_or (slice_get ls 0) []) (unwrap_or (slice_get ls 1) [])
-
--- each maker is guessed from its tokens
-made_of : (m : Maker) → made (maker_tokens m) ≡ m
-made_of (maker.Facets ls) = ap maker.Facets (lists_taken ls)
-made_of (maker.Copy x) = refl
-made_of (maker.Link x a) = ap (of_one (maker.Link x)) (one_taken a)
-made_of (maker.Star x a) = ap (of_one (maker.Star x)) (one_taken a)
-made_of (maker.Deletion x a) = ap (of_one (maker.Deletion x)) (one_taken a)
-made_of (maker.Boundary x) = refl
-made_of (maker.Skeleton x k) = refl
-made_of (maker.BdSimplex d) = refl
-made_of (maker.BdCross d) = refl
-made_of (maker.Cyclic k n) = refl
-made_of (maker.Stacked d n seed) = refl
-made_of (maker.Join x y) = refl
-made_of (maker.Cone x) = refl
-made_of (maker.Suspension x) = refl
-made_of (maker.Sum x a y b) = ap (of_two (λ f g. maker.Sum x f (word_in (list a ++ Word y ∷ list b)) g)) (apart_taken a y b) ∙ ap (λ z. maker.Sum x a z b) (word_closed a (Word y ∷ list b))
-made_of (maker.Handle x a b) = ap (of_two (maker.Handle x)) (two_taken a b)
-made_of (maker.Relabel x pairs) = ap (maker.Relabel x) (lists_taken pairs)
-
--- each form is guessed from its tokens
-pub guessed : (c : Command) → guess (command_tokens c) ≡ Some c
-guessed (command.Show ls) = ap (λ l. Some (command.Show l)) (lists_taken ls)
-guessed (command.Make x m) = ap (λ k. Some (command.Make x k)) (made_of m)
-guessed (command.Ask x question.Print) = refl
-guessed (command.Ask x question.Fvec) = refl
-guessed (command.Ask x question.Hvec) = refl
-guessed (command.Ask x question.Gvec) = refl
-guessed (command.Ask x question.Euler) = refl
-guessed (command.Ask x (question.Faces k)) = refl
-guessed (command.Ask x (question.Degree a)) = ap (of_one (λ a. Some (command.Ask x (question.Degree a)))) (one_taken a)
-guessed (command.Ask x question.Options) = refl
-guessed (command.Ask x (question.OptionsOf k)) = refl
-guessed (command.Ask x question.Betti) = refl
-guessed (command.Ask x question.Components) = refl
-guessed (command.Ask x question.Closed) = refl
-guessed (command.Ask x question.Strong) = refl
-guessed (command.Change x (edit.Flip a b)) = ap (of_two (λ a b. Some (command.Change x (edit.Flip a b)))) (two_taken a b)
-guessed (command.Change x (edit.Add a)) = ap (of_one (λ a. Some (command.Change x (edit.Add a)))) (one_taken a)
-guessed (command.Change x (edit.Drop a)) = ap (of_one (λ a. Some (command.Change x (edit.Drop a)))) (one_taken a)
-guessed (command.Change x (edit.Collapse a)) = ap (of_one (λ a. Some (command.Change x (edit.Collapse a)))) (one_taken a)
-guessed (command.Change x (edit.Reduce budget seed)) = refl
-guessed (command.Change x edit.Undo) = refl
-guessed (command.Change x edit.Redo) = refl
-guessed (command.Sphere x budget seed) = refl
-guessed (command.Equivalent x y budget seed) = refl
-guessed (command.Manifold x budget seed) = refl
+-- and each command stands in the row of its form
+formed_again : (c : Command) → command_from (target c) (normal (command_form c)) ≡ Some c
+formed_again (command.Show []) = refl
+formed_again (command.Make x (maker.Facets [])) = refl
+formed_again (command.Make x (maker.Relabel y [])) = refl
+formed_again (command.Ask x question.Print) = refl
+formed_again (command.Change x edit.Undo) = refl
+formed_again c = refl
 
 -- ---- the laws
-spelled_in : (c : Command) → command_in (command_tokens c) ≡ Some c
-spelled_in c = ap (option_and_then (checked (command_tokens c))) (guessed c) ∙ ap (λ v. cond v (Some c) None) (tokens_same (command_tokens c))
+formed_spelled : (t : Option (List ℕ)) (f : Form) (c : Command) → command_from t f ≡ Some c → target_tokens t ++ form_tokens f ≡ command_tokens c
+formed_spelled None f c h = sym (found_by command_tokens command_word f (commands_with f) (commands_same f) c h)
+formed_spelled (Some x) f c h = either (maker_by f) refl h
+  where
+    either : (r : Option Maker) → maker_by f ≡ r → option_map (command.Make x) r ≡ Some c → Word x ∷ Assign ∷ form_tokens f ≡ command_tokens c
+    either None e k = cc
+    either (Some m) e k =
+        let g : command.Make x m ≡ c = cc in
+        ap (λ ts. Word x ∷ Assign ∷ ts) (sym (found_by (λ n. form_tokens (maker_form n)) maker_word f (makers_with f) (makers_same f) m e)) ∙ ap command_tokens g
 
-checked_only : (ts : List Token) (c d : Command) (v : Bool) → same_tokens ts (command_tokens d) ≡ v → cond v (Some d) None ≡ Some c → ts ≡ command_tokens c
-checked_only ts c d true e h = let g : d ≡ c = cc in tokens_one ts (command_tokens d) e ∙ ap command_tokens g
-checked_only ts c d false e h = cc
+behind_target : (t : Option (List ℕ)) (us : List Token) (c : Command) → option_and_then (command_from t) (form_of us) ≡ Some c → target_tokens t ++ us ≡ command_tokens c
+behind_target t us c h = either (form_of us) refl h
+  where
+    either : (r : Option Form) → form_of us ≡ r → option_and_then (command_from t) r ≡ Some c → target_tokens t ++ us ≡ command_tokens c
+    either None e k = cc
+    either (Some f) e k = ap (λ ts. target_tokens t ++ ts) (form_only us f e) ∙ formed_spelled t f c k
 
 in_spelled : (ts : List Token) (c : Command) → command_in ts ≡ Some c → ts ≡ command_tokens c
-in_spelled ts c h = either (guess ts) h
-  where
-    either : (g : Option Command) → option_and_then (checked ts) g ≡ Some c → ts ≡ command_tokens c
-    either None k = cc
-    either (Some d) k = checked_only ts c d (same_tokens ts (command_tokens d)) refl k
+in_spelled (Word x ∷ Assign ∷ ts) c h = behind_target (Some x) ts c h
+in_spelled ts c h = behind_target None ts c h
+
+by_parts : (c : Command) → command_in (command_tokens c) ≡ option_and_then (command_from (target c)) (form_of (form_tokens (command_form c)))
+by_parts (command.Ask x question.Print) = refl
+by_parts (command.Change x edit.Undo) = refl
+by_parts c = refl
+
+pub spelled_in : (c : Command) → command_in (command_tokens c) ≡ Some c
+spelled_in c = by_parts c ∙ ap (option_and_then (command_from (target c))) (form_again (command_form c)) ∙ formed_again c
 
 of_tokens : (r : Option (List Token)) (c : Command) → option_and_then command_in r ≡ Some c → r ≡ Some (command_tokens c)
 of_tokens None c h = cc
@@ -181,7 +124,7 @@ unfolding command_of
 reads_the_spelled_lem bytes c = (of_tokens (tokens bytes) c, λ h. ap (option_and_then command_in) h ∙ spelled_in c)
 
 pub spelled_apart_lem : SpelledApart
-spelled_apart_lem c d e = let s : Some c ≡ Some d = sym (guessed c) ∙ ap guess e ∙ guessed d in cc
+spelled_apart_lem c d e = let s : Some c ≡ Some d = sym (spelled_in c) ∙ ap command_in e ∙ spelled_in d in cc
 
 -- where no command is spelled, none is found
 pub none_found : (bytes : List ℕ) → ((c : Command) → tokens bytes ≡ Some (command_tokens c) → ⊥) → command_of bytes ≡ None
@@ -192,104 +135,43 @@ none_found bytes h = either (command_of bytes) refl
     either None e = refl
     either (Some c) e = absurd (h c ((reads_the_spelled_lem bytes c).0 e))
 
--- ---- the parts of a command
--- a command begins with a word
-pub no_word : (t : Option (List Token)) → NoneBegins word t → NoneIs command_tokens t
-no_word t h c e = either (command_tokens c) (guessed c) e
-  where
-    either : (ts : List Token) → guess ts ≡ Some c → t ≡ Some ts → ⊥
-    either [] g k = cc
-    either (Word w ∷ ts) g k = h w ts k
-    either (Number n ∷ ts) g k = cc
-    either (Assign ∷ ts) g k = cc
-    either (Open ∷ ts) g k = cc
-    either (Close ∷ ts) g k = cc
-    either (Comma ∷ ts) g k = cc
+-- ---- what is read of bytes
+-- no parts begin like an assignment
+no_assignment : (ps : List Part) (x : List ℕ) (us : List Token) → flat_map part_tokens ps ≡ Word x ∷ Assign ∷ us → ⊥
+no_assignment (part.Name w ∷ part.Name v ∷ ps) x us e = cc
+no_assignment ps x us e = cc
 
--- an assignment, by its second token
-pub no_made : (x : List ℕ) (r s : Option (List Token)) → r ≡ before (Assign ∷ []) s → NoneIs maker_tokens s → NoneIs command_tokens (before (word x) r)
-no_made x r s e h c k =
-    let b = behind (Word x ∷ Assign ∷ []) (command_tokens c) s (sym (ap (before (word x)) e ∙ before_before (word x) (Assign ∷ []) s) ∙ k) in
-    let g : Some (command.Make x (made b.0)) ≡ Some c = ap guess b.2 ∙ guessed c in
-    let d : command.Make x (made b.0) ≡ c = cc in
-    let q : Word x ∷ Assign ∷ b.0 ≡ Word x ∷ Assign ∷ maker_tokens (made b.0) = b.2 ∙ sym (ap command_tokens d) in
-    let us : b.0 ≡ maker_tokens (made b.0) = cc in
-    h (made b.0) (b.1 ∙ ap Some us)
+-- the target and the parts are those that are spelled
+target_is : (t s : Option (List ℕ)) (f : Form) (r : Option (List Token)) → before (target_tokens t) r ≡ Some (target_tokens s ++ form_tokens f)
+    → (t ≡ None → (x : List ℕ) (us : List Token) → before (target_tokens t) r ≡ Some (Word x ∷ Assign ∷ us) → ⊥) → (t ≡ s) × (r ≡ Some (form_tokens f))
+target_is None None f r e h = let b = behind [] (form_tokens f) r e in (refl, b.1 ∙ ap Some b.2)
+target_is None (Some x) f r e h = absurd (h refl x (form_tokens f) e)
+target_is (Some x) None f r e h = let b = behind (Word x ∷ Assign ∷ []) (form_tokens f) r e in absurd (no_assignment (parts_of f) x b.0 (sym b.2))
+target_is (Some x) (Some y) f r e h =
+    let b = behind (Word x ∷ Assign ∷ []) (Word y ∷ Assign ∷ form_tokens f) r e in
+    let k : Word x ∷ Assign ∷ b.0 ≡ Word y ∷ Assign ∷ form_tokens f = b.2 in
+    let n : x ≡ y = cc in
+    let us : b.0 ≡ form_tokens f = cc in
+    (ap Some n, b.1 ∙ ap Some us)
 
--- a maker begins with a word or is lists
-pub no_maker : (t : Option (List Token)) → NoneBegins word t → NoneIs lists t → NoneIs maker_tokens t
-no_maker t h k m e = either (maker_tokens m) refl (made_of m)
-  where
-    of_lists : (ts : List Token) → maker.Facets (lists_in ts) ≡ m → ⊥
-    of_lists ts g = k (lists_in ts) (e ∙ ap Some (sym (ap maker_tokens g)))
+module _ (t : Option (List ℕ)) (q r : Option (List Token)) (is : q ≡ before (target_tokens t) r) where
+  pub is_formed : (f : Form) (o : Option Command) → r ≡ Some (form_tokens f) → o ≡ command_from t f → IfSome o (λ c. q ≡ Some (command_tokens c))
+  is_formed f None e h = tt
+  is_formed f (Some c) e h = is ∙ ap (before (target_tokens t)) e ∙ ap Some (formed_spelled t f c (sym h))
 
-    either : (ts : List Token) → maker_tokens m ≡ ts → made ts ≡ m → ⊥
-    either [] q g = of_lists [] g
-    either (Word w ∷ ts) q g = h w ts (e ∙ ap Some q)
-    either (Number n ∷ ts) q g = of_lists (Number n ∷ ts) g
-    either (Assign ∷ ts) q g = of_lists (Assign ∷ ts) g
-    either (Open ∷ ts) q g = of_lists (Open ∷ ts) g
-    either (Close ∷ ts) q g = of_lists (Close ∷ ts) g
-    either (Comma ∷ ts) q g = of_lists (Comma ∷ ts) g
+  module _ (none : t ≡ None → (x : List ℕ) (us : List Token) → q ≡ Some (Word x ∷ Assign ∷ us) → ⊥) where
+    spelled_target : (c : Command) → q ≡ Some (command_tokens c) → (t ≡ target c) × (r ≡ Some (form_tokens (command_form c)))
+    spelled_target c k = target_is t (target c) (command_form c) r (sym is ∙ k) (λ e x us g. none e x us (is ∙ g))
 
--- what is made behind the method, if there is one
-abbrev by_method : List Token → Option Method → Maker
-by_method ts v = unwrap_or (option_map (λ m. built m ts) v) (maker.Facets [])
+    pub no_form : NoneIs form_tokens r → NoneIs command_tokens q
+    no_form h c k = h (command_form c) (spelled_target c k).1
 
-pub no_method : (w : List ℕ) (r : Option (List Token)) → method_of w ≡ None → NoneIs maker_tokens (before (word w) r)
-no_method w r n m k =
-    let b = behind (word w) (maker_tokens m) r k in
-    let g : maker.Facets [] ≡ m = sym (ap (by_method b.0) n) ∙ ap made b.2 ∙ made_of m in
-    let q : Word w ∷ b.0 ≡ Open ∷ Close ∷ [] = b.2 ∙ sym (ap maker_tokens g) in
-    cc
-
--- what is found by a test passes it
-found_by : {X : Type 0} (p : X → Bool) (xs : List X) (x : X) → find p xs ≡ Some x → p x ≡ true
-found_by p [] x h = cc
-found_by p (y ∷ ys) x h = either (p y) refl (λ k. found_by p ys x k) h
-  where
-    either : (b : Bool) → p y ≡ b → (find p ys ≡ Some x → p x ≡ true) → cond b (Some y) (find p ys) ≡ Some x → p x ≡ true
-    either true e f h = let g : x ≡ y = cc in ap p g ∙ e
-    either false e f h = f h
-
-pub method_is : (w : List ℕ) (m : Method) → method_of w ≡ Some m → w ≡ method_word m
-method_is w m h = (bytes_decides w (method_word m)).0 (found_by (λ k. is_text w (method_word k)) methods m h)
-
-pub no_built : (w : List ℕ) (v : Method) (r : Option (List Token)) → method_of w ≡ Some v → NoneBuilt v r → NoneIs maker_tokens (before (word w) r)
-no_built w v r n s m k =
-    let name = method_is w v n in
-    let b = behind (word w) (maker_tokens m) r k in
-    let d : built v b.0 ≡ m = sym (ap (by_method b.0) n) ∙ ap made b.2 ∙ made_of m in
-    s b.0 b.1 (ap (λ x. Word x ∷ b.0) (sym name) ∙ b.2 ∙ sym (ap maker_tokens d))
-
-pub verb_is : (w : List ℕ) (v : Verb) → verb_of w ≡ Some v → w ≡ verb_word v
-verb_is w v h = (bytes_decides w (verb_word v)).0 (found_by (λ u. is_text w (verb_word u)) verbs v h)
-
--- any other command, by its first word
-guess_spoken : (w : List ℕ) (ts : List Token) → ((us : List Token) → ts ≡ Assign ∷ us → ⊥) → guess (Word w ∷ ts) ≡ option_map (λ v. spoken v ts) (verb_of w)
-guess_spoken w [] h = refl
-guess_spoken w (Word x ∷ ts) h = refl
-guess_spoken w (Number n ∷ ts) h = refl
-guess_spoken w (Assign ∷ ts) h = absurd (h ts refl)
-guess_spoken w (Open ∷ ts) h = refl
-guess_spoken w (Close ∷ ts) h = refl
-guess_spoken w (Comma ∷ ts) h = refl
-
-pub no_verb : (w : List ℕ) (r : Option (List Token)) → ((us : List Token) → r ≡ Some (Assign ∷ us) → ⊥) → verb_of w ≡ None → NoneIs command_tokens (before (word w) r)
-no_verb w r h n c k =
-    let b = behind (word w) (command_tokens c) r k in
-    let g : None ≡ Some c = sym (guess_spoken w b.0 (λ us q. h us (b.1 ∙ ap Some q)) ∙ ap (option_map (λ v. spoken v b.0)) n) ∙ ap guess b.2 ∙ guessed c in
-    cc
-
-pub no_spoken : (w : List ℕ) (v : Verb) (r : Option (List Token)) → ((us : List Token) → r ≡ Some (Assign ∷ us) → ⊥) → verb_of w ≡ Some v
-    → NoneSpoken v r → NoneIs command_tokens (before (word w) r)
-no_spoken w v r h n s c k =
-    let name = verb_is w v n in
-    let b = behind (word w) (command_tokens c) r k in
-    let g : Some (spoken v b.0) ≡ Some c = sym (guess_spoken w b.0 (λ us q. h us (b.1 ∙ ap Some q)) ∙ ap (option_map (λ v. spoken v b.0)) n) ∙ ap guess b.2 ∙ guessed c in
-    let d : spoken v b.0 ≡ c = cc in
-    s b.0 b.1 (ap (λ x. Word x ∷ b.0) (sym name) ∙ b.2 ∙ sym (ap command_tokens d))
-
--- what cannot stand behind a first word makes nothing with it
-pub none_behind : (w : List ℕ) (ts us : List Token) (t : Option (List Token)) → (t ≡ Some us → ⊥) → t ≡ Some ts → Word w ∷ ts ≡ Word w ∷ us → ⊥
-none_behind w ts us t h e k = let same : ts ≡ us = cc in h (e ∙ ap Some same)
+    pub not_formed : (f : Form) (o : Option Command) → r ≡ Some (form_tokens f) → AreNormal (parts_of f) → o ≡ command_from t f → IsNone o → NoneIs command_tokens q
+    not_formed f (Some d) e p n h c k = cc
+    not_formed f None e p n h c k =
+        let g = spelled_target c k in
+        let s : Some (form_tokens f) ≡ Some (form_tokens (command_form c)) = sym e ∙ g.1 in
+        let u : form_tokens f ≡ form_tokens (command_form c) = cc in
+        let v : f ≡ normal (command_form c) = sym (normal_itself f p) ∙ spelled_once f (command_form c) u in
+        let w : None ≡ Some c = n ∙ ap (λ x. command_from x f) g.0 ∙ ap (command_from (target c)) v ∙ formed_again c in
+        cc

@@ -1,4 +1,4 @@
 pub mod CommandLaws
 pub mod PartLaws
 pub mod PieceLaws
-pub mod WholeLaws
+pub mod PlaceLaws

@@ -8,7 +8,7 @@ use Rattle.simplex.proofs.InOrderLaws.{and_left, and_right, and_both}
 use Rattle.plain_text.specs.Bytes.{is_white, is_run_byte}
 use Rattle.script_text.specs.declared.token.Token.{Token}
 use Rattle.script_text.specs.Tokens.{plain, plain_from, goes_on, in_front, pieces, is_at_piece, token_of, tokens, cons_both, all_of, is_blank}
-use Rattle.script_text.specs.Parts.{before}
+use Rattle.script_text.specs.Fronts.{before}
 
 not_true : (b : Bool) → not b ≡ true → b ≡ false
 not_true true e = cc

@@ -1,8 +1,12 @@
--- The grammar: the tokens of each command.
-use Rattle.std.specs.Prelude.{ℕ, List, [], ◌∷◌, ◌++◌, map, codes}
+-- The grammar: the form of each command, and its tokens.
+use Rattle.std.specs.Prelude.{ℕ, Bool, true, false, List, [], ◌∷◌, ◌++◌, map, flat_map, codes, Option, Some, None}
 use Rattle.script_text.specs.declared.token.Token.{Token}
 use Rattle.script_text.specs.declared.token.Token.TheVariants.{Word, Assign, Open, Close, Comma}
-use Rattle.script_text.specs.Parts.{number}
+use Rattle.script_text.specs.Fronts.{number, word}
+use Rattle.script_text.specs.declared.form.Part.{Part}
+use Rattle.script_text.specs.declared.form.Part.TheVariants as part
+use Rattle.script_text.specs.declared.form.Form.{Form}
+use Rattle.script_text.specs.declared.form.Form.TheVariants.{Alone, One, Two, Three, Four}
 use Rattle.script_text.specs.declared.command.Command.{Command}
 use Rattle.script_text.specs.declared.command.Command.TheVariants as command
 use Rattle.script_text.specs.declared.command.Maker.{Maker}
@@ -12,16 +16,18 @@ use Rattle.script_text.specs.declared.command.Question.TheVariants as question
 use Rattle.script_text.specs.declared.command.Edit.{Edit}
 use Rattle.script_text.specs.declared.command.Edit.TheVariants as edit
 
+-- ---- the tokens of parts
 -- the tokens of each, with a comma between each two
 abbrev pub with_commas : List (List Token) → List Token
 with_commas [] = []
 with_commas (x ∷ []) = x
 with_commas (x ∷ y ∷ xs) = x ++ Comma ∷ with_commas (y ∷ xs)
 
--- the same with brackets around it, and without the first
+-- the same, and the bracket that closes it
 abbrev pub closed : List (List Token) → List Token
 closed xs = with_commas xs ++ Close ∷ []
 
+-- the same between its two brackets
 abbrev pub bracketed : List (List Token) → List Token
 bracketed xs = Open ∷ closed xs
 
@@ -32,58 +38,97 @@ list ns = bracketed (map number ns)
 abbrev pub lists : List (List ℕ) → List Token
 lists ls = bracketed (map list ls)
 
--- the tokens behind the sign of an assignment
-abbrev pub maker_tokens : Maker → List Token
-maker_tokens (maker.Facets ls) = lists ls
-maker_tokens (maker.Copy x) = Word (codes "copy") ∷ Word x ∷ []
-maker_tokens (maker.Link x face) = Word (codes "link") ∷ Word x ∷ list face
-maker_tokens (maker.Star x face) = Word (codes "star") ∷ Word x ∷ list face
-maker_tokens (maker.Deletion x face) = Word (codes "deletion") ∷ Word x ∷ list face
-maker_tokens (maker.Boundary x) = Word (codes "boundary") ∷ Word x ∷ []
-maker_tokens (maker.Skeleton x k) = Word (codes "skeleton") ∷ Word x ∷ number k
-maker_tokens (maker.BdSimplex d) = Word (codes "bdsimplex") ∷ number d
-maker_tokens (maker.BdCross d) = Word (codes "bdcross") ∷ number d
-maker_tokens (maker.Cyclic k n) = Word (codes "cyclic") ∷ number k ++ number n
-maker_tokens (maker.Stacked d n seed) = Word (codes "stacked") ∷ number d ++ number n ++ number seed
-maker_tokens (maker.Join x y) = Word (codes "join") ∷ Word x ∷ Word y ∷ []
-maker_tokens (maker.Cone x) = Word (codes "cone") ∷ Word x ∷ []
-maker_tokens (maker.Suspension x) = Word (codes "suspension") ∷ Word x ∷ []
-maker_tokens (maker.Sum x a y b) = Word (codes "sum") ∷ Word x ∷ list a ++ Word y ∷ list b
-maker_tokens (maker.Handle x a b) = Word (codes "handle") ∷ Word x ∷ list a ++ list b
-maker_tokens (maker.Relabel x pairs) = Word (codes "relabel") ∷ Word x ∷ lists pairs
+abbrev pub part_tokens : Part → List Token
+part_tokens (part.Name x) = word x
+part_tokens (part.Number n) = number n
+part_tokens (part.List ns) = list ns
+part_tokens (part.Lists ls) = lists ls
 
--- the tokens of a question to a name
-abbrev pub question_tokens : List ℕ → Question → List Token
-question_tokens x question.Print = Word (codes "print") ∷ Word x ∷ []
-question_tokens x question.Fvec = Word (codes "fvec") ∷ Word x ∷ []
-question_tokens x question.Hvec = Word (codes "hvec") ∷ Word x ∷ []
-question_tokens x question.Gvec = Word (codes "gvec") ∷ Word x ∷ []
-question_tokens x question.Euler = Word (codes "euler") ∷ Word x ∷ []
-question_tokens x (question.Faces k) = Word (codes "faces") ∷ Word x ∷ number k
-question_tokens x (question.Degree face) = Word (codes "degree") ∷ Word x ∷ list face
-question_tokens x question.Options = Word (codes "options") ∷ Word x ∷ []
-question_tokens x (question.OptionsOf class) = Word (codes "options") ∷ Word x ∷ number class
-question_tokens x question.Betti = Word (codes "betti") ∷ Word x ∷ []
-question_tokens x question.Components = Word (codes "components") ∷ Word x ∷ []
-question_tokens x question.Closed = Word (codes "closed") ∷ Word x ∷ []
-question_tokens x question.Strong = Word (codes "strong") ∷ Word x ∷ []
+-- the parts of a form in order, with the word as a name
+abbrev pub parts_of : Form → List Part
+parts_of (Alone a) = a ∷ []
+parts_of (One w a) = part.Name w ∷ a ∷ []
+parts_of (Two w a b) = part.Name w ∷ a ∷ b ∷ []
+parts_of (Three w a b c) = part.Name w ∷ a ∷ b ∷ c ∷ []
+parts_of (Four w a b c d) = part.Name w ∷ a ∷ b ∷ c ∷ d ∷ []
 
--- the tokens of an edit of a name
-abbrev pub edit_tokens : List ℕ → Edit → List Token
-edit_tokens x (edit.Flip a b) = Word (codes "flip") ∷ Word x ∷ list a ++ list b
-edit_tokens x (edit.Add face) = Word (codes "add") ∷ Word x ∷ list face
-edit_tokens x (edit.Drop face) = Word (codes "drop") ∷ Word x ∷ list face
-edit_tokens x (edit.Collapse face) = Word (codes "collapse") ∷ Word x ∷ list face
-edit_tokens x (edit.Reduce budget seed) = Word (codes "reduce") ∷ Word x ∷ number budget ++ number seed
-edit_tokens x edit.Undo = Word (codes "undo") ∷ Word x ∷ []
-edit_tokens x edit.Redo = Word (codes "redo") ∷ Word x ∷ []
+abbrev pub form_tokens : Form → List Token
+form_tokens f = flat_map part_tokens (parts_of f)
+
+-- whether nothing can stand behind the form
+abbrev pub is_full : Form → Bool
+is_full (Alone (part.Name w)) = false
+is_full (Alone a) = true
+is_full (Four w a b c d) = true
+is_full f = false
+
+-- the tokens of the name before an assignment, and none where there is no such name
+abbrev pub target_tokens : Option (List ℕ) → List Token
+target_tokens None = []
+target_tokens (Some x) = Word x ∷ Assign ∷ []
+
+-- ---- the forms of commands
+abbrev pub maker_form : Maker → Form
+maker_form (maker.Facets ls) = Alone (part.Lists ls)
+maker_form (maker.Copy x) = One (codes "copy") (part.Name x)
+maker_form (maker.Link x face) = Two (codes "link") (part.Name x) (part.List face)
+maker_form (maker.Star x face) = Two (codes "star") (part.Name x) (part.List face)
+maker_form (maker.Deletion x face) = Two (codes "deletion") (part.Name x) (part.List face)
+maker_form (maker.Boundary x) = One (codes "boundary") (part.Name x)
+maker_form (maker.Skeleton x k) = Two (codes "skeleton") (part.Name x) (part.Number k)
+maker_form (maker.BdSimplex d) = One (codes "bdsimplex") (part.Number d)
+maker_form (maker.BdCross d) = One (codes "bdcross") (part.Number d)
+maker_form (maker.Cyclic k n) = Two (codes "cyclic") (part.Number k) (part.Number n)
+maker_form (maker.Stacked d n seed) = Three (codes "stacked") (part.Number d) (part.Number n) (part.Number seed)
+maker_form (maker.Join x y) = Two (codes "join") (part.Name x) (part.Name y)
+maker_form (maker.Cone x) = One (codes "cone") (part.Name x)
+maker_form (maker.Suspension x) = One (codes "suspension") (part.Name x)
+maker_form (maker.Sum x a y b) = Four (codes "sum") (part.Name x) (part.List a) (part.Name y) (part.List b)
+maker_form (maker.Handle x a b) = Three (codes "handle") (part.Name x) (part.List a) (part.List b)
+maker_form (maker.Relabel x pairs) = Two (codes "relabel") (part.Name x) (part.Lists pairs)
+
+abbrev pub question_form : List ℕ → Question → Form
+question_form x question.Print = One (codes "print") (part.Name x)
+question_form x question.Fvec = One (codes "fvec") (part.Name x)
+question_form x question.Hvec = One (codes "hvec") (part.Name x)
+question_form x question.Gvec = One (codes "gvec") (part.Name x)
+question_form x question.Euler = One (codes "euler") (part.Name x)
+question_form x (question.Faces k) = Two (codes "faces") (part.Name x) (part.Number k)
+question_form x (question.Degree face) = Two (codes "degree") (part.Name x) (part.List face)
+question_form x question.Options = One (codes "options") (part.Name x)
+question_form x (question.OptionsOf class) = Two (codes "options") (part.Name x) (part.Number class)
+question_form x question.Betti = One (codes "betti") (part.Name x)
+question_form x question.Components = One (codes "components") (part.Name x)
+question_form x question.Closed = One (codes "closed") (part.Name x)
+question_form x question.Strong = One (codes "strong") (part.Name x)
+
+abbrev pub edit_form : List ℕ → Edit → Form
+edit_form x (edit.Flip a b) = Three (codes "flip") (part.Name x) (part.List a) (part.List b)
+edit_form x (edit.Add face) = Two (codes "add") (part.Name x) (part.List face)
+edit_form x (edit.Drop face) = Two (codes "drop") (part.Name x) (part.List face)
+edit_form x (edit.Collapse face) = Two (codes "collapse") (part.Name x) (part.List face)
+edit_form x (edit.Reduce budget seed) = Three (codes "reduce") (part.Name x) (part.Number budget) (part.Number seed)
+edit_form x edit.Undo = One (codes "undo") (part.Name x)
+edit_form x edit.Redo = One (codes "redo") (part.Name x)
+
+-- of an assignment the form behind its sign
+abbrev pub command_form : Command → Form
+command_form (command.Show ls) = One (codes "show") (part.Lists ls)
+command_form (command.Make x m) = maker_form m
+command_form (command.Ask x q) = question_form x q
+command_form (command.Change x e) = edit_form x e
+command_form (command.Sphere x budget seed) =
+    Three (codes "sphere") (part.Name x) (part.Number budget) (part.Number seed)
+command_form (command.Equivalent x y budget seed) =
+    Four (codes "equivalent") (part.Name x) (part.Name y) (part.Number budget) (part.Number seed)
+command_form (command.Manifold x budget seed) =
+    Three (codes "manifold") (part.Name x) (part.Number budget) (part.Number seed)
+
+-- the name before the sign of an assignment, if the command is one
+abbrev pub target : Command → Option (List ℕ)
+target (command.Make x m) = Some x
+target c = None
 
 -- the tokens of a command
 abbrev pub command_tokens : Command → List Token
-command_tokens (command.Show ls) = Word (codes "show") ∷ lists ls
-command_tokens (command.Make x m) = Word x ∷ Assign ∷ maker_tokens m
-command_tokens (command.Ask x q) = question_tokens x q
-command_tokens (command.Change x e) = edit_tokens x e
-command_tokens (command.Sphere x budget seed) = Word (codes "sphere") ∷ Word x ∷ number budget ++ number seed
-command_tokens (command.Equivalent x y budget seed) = Word (codes "equivalent") ∷ Word x ∷ Word y ∷ number budget ++ number seed
-command_tokens (command.Manifold x budget seed) = Word (codes "manifold") ∷ Word x ∷ number budget ++ number seed
+command_tokens c = target_tokens (target c) ++ form_tokens (command_form c)

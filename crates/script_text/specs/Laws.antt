@@ -7,7 +7,8 @@ use Rattle.script_text.specs.declared.command.Command.{Command}
 
 -- bytes spell a command exactly where its tokens are theirs
 abbrev pub ReadsTheSpelled : Type 0
-ReadsTheSpelled = (bytes : List ℕ) (c : Command) → (command_of bytes ≡ Some c) ↔ (tokens bytes ≡ Some (command_tokens c))
+ReadsTheSpelled =
+    (bytes : List ℕ) (c : Command) → (command_of bytes ≡ Some c) ↔ (tokens bytes ≡ Some (command_tokens c))
 
 -- two commands with the same tokens are one
 abbrev pub SpelledApart : Type 0

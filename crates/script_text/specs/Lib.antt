@@ -1,7 +1,6 @@
+pub mod Forms
+pub mod Fronts
 pub mod Grammar
 pub mod Laws
-pub mod Methods
-pub mod Parts
 pub mod Reading
 pub mod Tokens
-pub mod Verbs

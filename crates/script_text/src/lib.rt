@@ -1,14 +1,13 @@
-//! The script grammar: what is blank, the command that bytes are, and the texts of numbers, simplices and facet lists.
+//! The script grammar: what is blank, the tokens and the form of each command, and the command that bytes are.
 #![tactic(auto)]
 
 mod command;
+mod form;
+mod forms;
 mod laws;
-mod method;
 mod parts;
 mod reading;
 mod token;
-mod verb;
-mod whole;
 
 pub use command::{Command, CommandFault, Edit, Maker, Question};
 pub use conditions::Condition;

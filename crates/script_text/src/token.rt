@@ -1,6 +1,6 @@
 ghost use Rattle.std.specs.Prelude.{◌≡◌, ◌≤◌, ◌<◌, [], ◌∷◌, IfSome, IsNone, length, take, drop, true};
 ghost use Rattle.script_text.specs.declared.token.Token.{Token};
-ghost use Rattle.script_text.specs.Parts.{before, NoneBegins};
+ghost use Rattle.script_text.specs.Fronts.{before, NoneBegins};
 ghost use Rattle.script_text.specs.Tokens.{sign_of, token_of, tokens, goes_on, plain, pieces, is_at_piece};
 
 use crate::is_in_comment;

@@ -2,7 +2,7 @@
 ghost use Rattle.std.specs.Prelude.{◌≤◌};
 ghost use Rattle.script_shell.specs.Limits.{IsWithinStandard};
 
-use run_ends::{MemSink, MemSource, SureSink, SureSource};
+use run_ends::{MemSink, MemSource, Source, SureSink, SureSource};
 use script_shell::{Exit, Limits, Reply, Shell, run_program, run_surely};
 use script_text::{Command, Condition, Name, read_command};
 use simplex::{Lists, Memory, Numbers};
@@ -106,14 +106,27 @@ fn replay_of_empty_input_checks_nothing(rt: HostRuntime) -> Result<(), Fail> {
 
 const TWO_SHOWS: &[u8] = b"show [[1]];show [[2]];";
 
+// The exit of a run over a source that fails at this call, and whether just this text was written.
+fn ran_failing(alloc: Global, piece: usize, fail: u64, text: &[u8]) -> Result<(Exit, bool), Fail>
+    requires { 1 ≤ piece }
+{
+    let words = words_of(alloc, "run")?;
+    let mut source = MemSource::new(alloc, TWO_SHOWS, piece, &[fail])?;
+    let mut sink = SureSink::new(alloc, 7);
+    let ended = run_program(alloc, words.as_slice(), &mut source, &mut sink);
+    Ok((ended, sink.written() == text))
+}
+
 #[test]
-fn a_failing_source_has_its_exit(rt: HostRuntime) -> Result<(), Fail> {
-    let words = words_of(rt.alloc(), "run")?;
-    let mut source = MemSource::new(rt.alloc(), TWO_SHOWS, 11, &[1])?;
-    let mut sink = SureSink::new(rt.alloc(), 7);
-    let ended = run_program(rt.alloc(), words.as_slice(), &mut source, &mut sink);
-    assert_eq!(rt; ended, Exit::ReadFault);
-    assert!(rt; b"[1] facets [[1]]\n".starts_with(sink.written()));
+fn a_failed_read_leaves_the_answers_to_whole_commands(rt: HostRuntime) -> Result<(), Fail> {
+    let ended = ran_failing(rt.alloc(), 11, 1, b"[1] facets [[1]]\n")?;
+    assert_eq!(rt; ended, (Exit::ReadFault, true));
+    let ended = ran_failing(rt.alloc(), 5, 1, b"")?;
+    assert_eq!(rt; ended, (Exit::ReadFault, true));
+    let ended = ran_failing(rt.alloc(), 5, 4, b"[1] facets [[1]]\n")?;
+    assert_eq!(rt; ended, (Exit::ReadFault, true));
+    let ended = ran_failing(rt.alloc(), 11, 3, b"[1] facets [[1]]\n[2] facets [[2]]\n")?;
+    assert_eq!(rt; ended, (Exit::Done, true));
     Ok(())
 }
 
@@ -125,6 +138,27 @@ fn a_failing_sink_has_its_exit(rt: HostRuntime) -> Result<(), Fail> {
     let ended = run_program(rt.alloc(), words.as_slice(), &mut source, &mut sink);
     assert_eq!(rt; ended, Exit::WriteFault);
     assert_eq!(rt; sink.written(), b"".as_slice());
+    Ok(())
+}
+
+#[test]
+fn a_failing_sink_stops_the_reading(rt: HostRuntime) -> Result<(), Fail> {
+    let alloc = rt.alloc();
+    let mut input = Vec::new(alloc);
+    for _ in 0..20_000 {
+        input.extend_from_slice(b"show [];")?;
+    }
+    let words = words_of(alloc, "run")?;
+    let mut source = MemSource::new(alloc, &input, 65_536, &[])?;
+    let mut sink = MemSink::new(alloc, 1, &[0])?;
+    let ended = run_program(alloc, words.as_slice(), &mut source, &mut sink);
+    assert_eq!(rt; ended, Exit::WriteFault);
+    assert_eq!(rt; sink.written(), b"".as_slice());
+    // all but the 65,536 bytes of one read are left
+    let mut left = spaces(alloc, 160_000)?;
+    assert_eq!(rt; source.read(&mut left), Ok(65_536));
+    assert_eq!(rt; source.read(&mut left), Ok(28_928));
+    assert_eq!(rt; source.read(&mut left), Ok(0));
     Ok(())
 }
 

@@ -1,4 +1,4 @@
-use Rattle.std.proofs.Common.{◌≡◌, ◌≤◌, ℕ, ◌<◌, ◌^◌, length, get_or, vec_capacity}
+use Rattle.std.proofs.Common.{◌≡◌, ◌≤◌, ℕ, ◌<◌, length, get_or, vec_capacity}
 use Rattle.simplex.specs.Simplex.{subset_at}
 use Rattle.face_lattice.specs.Slots.{IsNoted}
 use Rattle.face_lattice.proofs.passes.find.Given as goal

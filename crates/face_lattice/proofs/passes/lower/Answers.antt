@@ -1,5 +1,4 @@
-use Rattle.std.proofs.Common.{◌≡◌, ◌<◌, ◌≤◌, ◌+◌, ◌-◌, ◌^◌, ◌&&◌, length, get_or, refl, sym, ap, ◌∙◌, subst, arith}
-use Rattle.std.specs.Prelude.{◌==◌}
+use Rattle.std.proofs.Common.{◌≡◌, ◌<◌, ◌+◌, ◌-◌, ◌^◌, length, get_or, sym, ap, ◌∙◌, subst, arith}
 use Rattle.simplex.specs.Simplex.{subset_at}
 use Rattle.simplex.proofs.Filled.{short_of, simplex-subset_at}
 use Rattle.face_lattice.specs.Counts.{blank_count}

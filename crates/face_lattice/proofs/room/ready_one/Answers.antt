@@ -1,8 +1,9 @@
-use Rattle.std.proofs.Common.{◌≡◌, ◌%◌, ◌*◌, ◌^◌, ℕ, List, Ok, length, subst, sym, ap, ◌∙◌}
+use Rattle.std.proofs.Common.{◌^◌, length, subst, sym, ◌∙◌}
 use Rattle.facet_set.proofs.FaceNumbers.{number_is}
-use Rattle.face_lattice.specs.Slots.{AreNoted, AreNumbered, cell_at}
-use Rattle.face_lattice.specs.States.{HasRoom}
+use Rattle.face_lattice.specs.Slots.{AreNoted, AreNumbered}
 use Rattle.face_lattice.proofs.KeepLaws.{room_keeps}
+use Rattle.face_lattice.proofs.IdleLaws.{idle_same}
+use Rattle.face_lattice.proofs.LastLaws.{lasting_again, lasting_kept}
 use Rattle.face_lattice.proofs.OuterLaws.{whole_noted}
 use Rattle.face_lattice.proofs.PlaceLaws.{ready_parts, some_stays}
 use Rattle.face_lattice.proofs.SlabLaws.{on_ok}
@@ -27,3 +28,9 @@ returns-clause-ready c =
 
 pub returns-clause-stays : goal.returns-clause-stays
 returns-clause-stays c = λ t f h. some_stays c.args.slab.now c.note.new.slab c.make_ready.new.slab t f c.note.ensures.stays c.make_ready.ensures.kept c.make_ready.ensures.stays h
+
+pub returns-clause-lasts : goal.returns-clause-lasts
+returns-clause-lasts c = lasting_again c.args.slab.now c.note.new.slab c.make_ready.new.slab c.note.ensures.lasts (lasting_kept c.note.new.slab c.make_ready.new.slab c.make_ready.ensures.ids c.make_ready.ensures.kept c.make_ready.ensures.asked)
+
+pub returns-clause-idle : goal.returns-clause-idle
+returns-clause-idle c = λ t w. idle_same c.note.new.slab c.make_ready.new.slab c.make_ready.ensures.kept c.make_ready.ensures.asked t ∙ c.note.ensures.idle t w

@@ -1,6 +1,6 @@
 use Rattle.std.proofs.Common.{◌≡◌, ◌≤◌, length}
 use Rattle.script_text.specs.Grammar.{list}
-use Rattle.script_text.specs.Parts.{before}
+use Rattle.script_text.specs.Fronts.{before}
 use Rattle.script_text.specs.Tokens.{tokens}
 use Rattle.script_text.proofs.PartLaws.{followed}
 use Rattle.script_text.proofs.parts.read_more_lists.Given as goal

@@ -1,5 +1,5 @@
 use Rattle.std.proofs.Common.{◌≡◌, ◌≤◌, length}
-use Rattle.script_text.specs.Parts.{before, number}
+use Rattle.script_text.specs.Fronts.{before, number}
 use Rattle.script_text.specs.Tokens.{tokens}
 use Rattle.script_text.proofs.PartLaws.{followed}
 use Rattle.script_text.proofs.parts.read_numbers.Given as goal

@@ -2,7 +2,7 @@ use Rattle.std.proofs.Common.{ap, ◌∙◌}
 use Rattle.facet_set.specs.Numbers.{degree}
 use Rattle.face_lattice.specs.Lattice.{LatticeState}
 use Rattle.face_lattice.specs.Slots.{cell_at}
-use Rattle.face_lattice.proofs.ReadLaws.{IsReadOf, degree_or, read_of}
+use Rattle.face_lattice.proofs.ReadLaws.{degree_or, read_of}
 use Rattle.face_lattice.proofs.lattice.Lattice.degree.Goals as goal
 
 pub returns-in-Some-clause-value : goal.returns-in-Some-clause-value

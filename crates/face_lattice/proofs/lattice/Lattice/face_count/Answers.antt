@@ -1,4 +1,4 @@
-use Rattle.std.proofs.Common.{ap, get_or, ◌∙◌, arith}
+use Rattle.std.proofs.Common.{ap, ◌∙◌, arith}
 use Rattle.std.specs.Option.{unwrap_or}
 use Rattle.facet_set.specs.Numbers.{face_count}
 use Rattle.face_lattice.specs.Lattice.{LatticeState}

@@ -1,6 +1,6 @@
-use Rattle.std.proofs.Common.{◌≡◌, ◌<◌, ℕ, false, true, sym, ap, ◌∙◌, below_more, length, arith}
+use Rattle.std.proofs.Common.{◌≡◌, false, true, sym, ap, ◌∙◌, below_more, length, arith}
 use Rattle.std.proofs.lemmas.Nat.{pow_pos}
-use Rattle.simplex.specs.Simplex.{is_within, subset_at}
+use Rattle.simplex.specs.Simplex.{subset_at}
 use Rattle.simplex.proofs.SubsetLaws.{subset_within}
 use Rattle.facet_set.specs.Complex.{stands_in}
 use Rattle.facet_set.proofs.FaceNumbers.{number_is}

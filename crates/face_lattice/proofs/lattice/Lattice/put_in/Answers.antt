@@ -1,4 +1,4 @@
-use Rattle.std.proofs.Common.{sym, ap, ◌∙◌, subst, arith, List, ℕ}
+use Rattle.std.proofs.Common.{sym, ap, ◌∙◌, subst, arith}
 use Rattle.simplex.specs.InOrder.{put}
 use Rattle.simplex.specs.Simplex.{is_within, simplex_cmp}
 use Rattle.std.specs.List.{list_any}
@@ -10,6 +10,9 @@ use Rattle.face_lattice.proofs.KeepLaws.{few}
 use Rattle.face_lattice.proofs.LatticeLaws.{made, put_kept, faces_few, facets_few}
 use Rattle.face_lattice.proofs.OuterLaws.{noted_as}
 use Rattle.face_lattice.proofs.PlaceLaws.{ids_there, ready_for, room_rest}
+use Rattle.face_lattice.proofs.NeedLaws.{AreForRoom, for_rest}
+use Rattle.face_lattice.proofs.HoldLaws.{holds_lasting}
+use Rattle.face_lattice.proofs.LastLaws.{lasting_more}
 use Rattle.face_lattice.proofs.lattice.Lattice.put_in.Goals as goal
 
 pub find-requires-clause-there : goal.find-requires-clause-there
@@ -52,6 +55,7 @@ invariant_of-self g c =
           noted c.insert_facet.ensures.cells (omega (arith, c.raise.auto.counts, c.self.invariant.kept.sizes)) c.raise.ensures)).kept;
       ready = subst (λ r. IsRoomOf r (cell_at w)) (sym c.forget.ensures) (room_rest room f (cell_at v) (cell_at w) c.self.invariant.ready inside c.insert_facet.ensures.cells);
       wide = omega (arith, c.self.invariant.wide, c.find.ensures.capacity);
+      needed = subst (λ r. AreForRoom (cell_at w) r) (sym c.forget.ensures) (for_rest v w room f c.self.invariant.needed c.insert_facet.ensures.cells);
     }
 
 pub returns-clause-facets : goal.returns-clause-facets
@@ -64,3 +68,6 @@ returns-clause-facets g c =
     (ap (λ (l : LatticeState). is_face l.facets f) c.self.view_is ∙ c.requires.new) (ap (λ (l : LatticeState). list_any (λ s. is_within s f) l.facets) c.self.view_is ∙ c.requires.above)
     noted c.insert_facet.ensures.cells (omega (arith, c.raise.auto.counts, c.self.invariant.kept.sizes)) c.raise.ensures)).facets
     ∙ ap (λ (l : LatticeState). put simplex_cmp f l.facets) c.self.view_is
+
+pub returns-clause-holds : goal.returns-clause-holds
+returns-clause-holds g c = holds_lasting c.args.self.now c.self.inside.slab c.insert_facet.new.slab _ _ _ _ (ap (λ (l : LatticeState). l.facets) (sym c.self.view_is)) (ap (λ (l : LatticeState). l.ids) (sym c.self.view_is)) (ap (λ (l : LatticeState). l.askers) (sym c.self.view_is)) c.self.invariant.kept.cells (lasting_more c.self.inside.slab c.insert_facet.new.slab c.args.f.now c.insert_facet.ensures.ids c.insert_facet.ensures.cells)

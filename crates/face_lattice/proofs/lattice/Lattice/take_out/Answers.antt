@@ -1,4 +1,4 @@
-use Rattle.std.proofs.Common.{sym, ap, ◌∙◌, ◌&&◌, subst, arith, List, ℕ}
+use Rattle.std.proofs.Common.{sym, ap, ◌∙◌, ◌&&◌, subst, arith}
 use Rattle.simplex.specs.Simplex.{is_simplex, is_within, subset_at}
 use Rattle.simplex.proofs.Filled.{simplex-subset_at}
 use Rattle.simplex.proofs.SubsetLaws.{subset_within}
@@ -13,6 +13,9 @@ use Rattle.face_lattice.proofs.OuterLaws.{noted_as}
 use Rattle.face_lattice.proofs.PlaceLaws.{no_room}
 use Rattle.face_lattice.proofs.SlabLaws.{still_all_noted}
 use Rattle.face_lattice.proofs.ViewLaws.{face_key}
+use Rattle.face_lattice.proofs.NeedLaws.{for_same}
+use Rattle.face_lattice.proofs.HoldLaws.{holds_less}
+use Rattle.face_lattice.proofs.LastLaws.{asked_after_less}
 use Rattle.face_lattice.proofs.lattice.Lattice.take_out.Goals as goal
 
 pub find-requires-clause-there : goal.find-requires-clause-there
@@ -57,12 +60,13 @@ invariant_of-self g c =
     let inside = member (facets_in v) f (ap (λ (l : LatticeState). stands_in l.facets f) c.self.view_is ∙ c.requires.facet) in
     let noted = still_all_noted v w f _ c.deref-2.result.now c.remove_facet.ensures.ids (noted_as v f c.len.result c.find.new.ids.items c.deref-2.result.now c.len.ensures.simplex c.len.ensures.value c.deref-2.ensures.value c.find.ensures.noted) in
     let left = cells_left (facets_in v) v c.self.inside.counts c.self.invariant.kept f inside w c.remove_facet.ensures.cells in
-    let are = put_back_keeps (all_but f (facets_in v)) (λ t. is_simplex t && is_within t f) (cell_at w) (cell_at u) left c.put_back.ensures in
+    let are = put_back_keeps (all_but f (facets_in v)) (λ t. is_simplex t && is_within t f) (cell_at w) (cell_at u) left c.put_back.ensures.cells in
     record {
       kept = (made (all_but f (facets_in v)) u c.lower.new.counts (take_kept (facets_in v) v c.self.inside.counts c.self.invariant.kept f inside w u _ _ c.lower.new.counts noted c.remove_facet.ensures.cells are
           (omega (arith, c.lower.auto.counts, c.self.invariant.kept.sizes)) c.lower.ensures)).kept;
       ready = subst (λ r. IsRoomOf r (cell_at u)) (sym (ap (λ (l : LatticeState). l.room) c.self.view_is ∙ c.requires.room)) (no_room (cell_at u));
       wide = omega (arith, c.self.invariant.wide, c.find.ensures.capacity);
+      needed = for_same v w u c.self.inside.members.items f c.self.invariant.needed c.remove_facet.ensures.cells c.put_back.ensures.cells;
     }
 
 pub returns-clause-facets : goal.returns-clause-facets
@@ -74,7 +78,21 @@ returns-clause-facets g c =
     let inside = member (facets_in v) f (ap (λ (l : LatticeState). stands_in l.facets f) c.self.view_is ∙ c.requires.facet) in
     let noted = still_all_noted v w f _ c.deref-2.result.now c.remove_facet.ensures.ids (noted_as v f c.len.result c.find.new.ids.items c.deref-2.result.now c.len.ensures.simplex c.len.ensures.value c.deref-2.ensures.value c.find.ensures.noted) in
     let left = cells_left (facets_in v) v c.self.inside.counts c.self.invariant.kept f inside w c.remove_facet.ensures.cells in
-    let are = put_back_keeps (all_but f (facets_in v)) (λ t. is_simplex t && is_within t f) (cell_at w) (cell_at u) left c.put_back.ensures in
+    let are = put_back_keeps (all_but f (facets_in v)) (λ t. is_simplex t && is_within t f) (cell_at w) (cell_at u) left c.put_back.ensures.cells in
     (made (all_but f (facets_in v)) u c.lower.new.counts (take_kept (facets_in v) v c.self.inside.counts c.self.invariant.kept f inside w u _ _ c.lower.new.counts noted c.remove_facet.ensures.cells are
     (omega (arith, c.lower.auto.counts, c.self.invariant.kept.sizes)) c.lower.ensures)).facets
     ∙ ap (λ (l : LatticeState). all_but f l.facets) c.self.view_is
+
+pub returns-clause-holds : goal.returns-clause-holds
+returns-clause-holds g c =
+    let f = c.args.f.now in
+    let v = c.self.inside.slab in
+    let w = c.remove_facet.new.slab in
+    let u = c.put_back.new.slab in
+    let inside = member (facets_in v) f (ap (λ (l : LatticeState). stands_in l.facets f) c.self.view_is ∙ c.requires.facet) in
+    let noted = still_all_noted v w f _ c.deref-2.result.now c.remove_facet.ensures.ids (noted_as v f c.len.result c.find.new.ids.items c.deref-2.result.now c.len.ensures.simplex c.len.ensures.value c.deref-2.ensures.value c.find.ensures.noted) in
+    let left = cells_left (facets_in v) v c.self.inside.counts c.self.invariant.kept f inside w c.remove_facet.ensures.cells in
+    let are = put_back_keeps (all_but f (facets_in v)) (λ t. is_simplex t && is_within t f) (cell_at w) (cell_at u) left c.put_back.ensures.cells in
+    holds_less c.args.self.now v w u _ _ (all_but f (facets_in v)) _ f (ap (λ (l : LatticeState). l.ids) (sym c.self.view_is)) (ap (λ (l : LatticeState). l.askers) (sym c.self.view_is)) c.remove_facet.ensures.ids.ids (asked_after_less v w f c.remove_facet.ensures.cells) c.put_back.ensures.lasts c.put_back.ensures.cells are
+    ((made (all_but f (facets_in v)) u c.lower.new.counts (take_kept (facets_in v) v c.self.inside.counts c.self.invariant.kept f inside w u _ _ c.lower.new.counts noted c.remove_facet.ensures.cells are
+    (omega (arith, c.lower.auto.counts, c.self.invariant.kept.sizes)) c.lower.ensures)).facets)

@@ -2,7 +2,7 @@ use Rattle.std.proofs.Common.{ap, length, ◌∙◌}
 use Rattle.facet_set.specs.Flips.{link_vertices}
 use Rattle.face_lattice.specs.Lattice.{LatticeState}
 use Rattle.face_lattice.specs.Slots.{cell_at}
-use Rattle.face_lattice.proofs.ReadLaws.{IsReadOf, up_or, read_of}
+use Rattle.face_lattice.proofs.ReadLaws.{up_or, read_of}
 use Rattle.face_lattice.proofs.lattice.Lattice.up_count.Goals as goal
 
 pub returns-in-Some-clause-value : goal.returns-in-Some-clause-value

@@ -1,7 +1,11 @@
-use Rattle.std.proofs.Common.{◌≡◌, ◌≤◌, ◌+◌, Some, is_some, if◌then◌else◌, IfOk, OnOk, length, sym, ap, subst, arith}
+use Rattle.std.proofs.Common.{◌≡◌, ◌≤◌, ◌+◌, Some, is_some, if◌then◌else◌, IfOk, OnOk, cond, get_or, refl, ◌∙◌, length, sym, ap, subst, arith}
 use Rattle.indexmap.specs.IndexMap.{Updates}
 use Rattle.face_lattice.specs.Cells.{same}
-use Rattle.face_lattice.specs.Slots.{AreLed}
+use Rattle.std.specs.Map.{lookup}
+use Rattle.std.specs.Option.{option_map}
+use Rattle.facet_set.proofs.FaceNumbers.{same_from}
+use Rattle.face_lattice.specs.Slots.{AreLed, no_slot}
+use Rattle.face_lattice.specs.States.{asked}
 use Rattle.face_lattice.proofs.SlabLaws.{leads_still, leads_more, at_most_one}
 use Rattle.face_lattice.proofs.slab.Slab.add.Goals as goal
 
@@ -47,3 +51,11 @@ returns-clause-led c =
     let slots = c.self.inside.slots.items in
     let more = subst (λ r. OnOk r (Updates same c.reserve.new.self c.insert.new.self c.args.s (Some c.in_ok-id.id))) c.unwrap.ensures c.insert.ensures.updates in
     leads_more ids c.insert.new.self.entries slots c.take.new.slots.items c.args.s c.in_ok-id.id c.take.ensures.kept (subst (λ x. AreLed x slots) (sym same_ids) c.self.invariant.led) c.in_ok-id.ensures.slot.led more.0
+
+pub returns-clause-asked : goal.returns-clause-asked
+returns-clause-asked c =
+    let ids = c.reserve.new.self.entries in
+    let s = c.args.s in
+    let more = subst (λ r. OnOk r (Updates same c.reserve.new.self c.insert.new.self s (Some c.in_ok-id.id))) c.unwrap.ensures c.insert.ensures.updates in
+    let found : lookup (same s) c.insert.new.self.entries ≡ Some c.in_ok-id.id = more.0 s ∙ ap (λ b. cond b (Some c.in_ok-id.id) (lookup (same s) ids)) (same_from s s refl) in
+    ap (λ o. asked (option_map (λ i. (get_or c.take.new.slots.items i no_slot).cell) o)) found ∙ c.in_ok-id.ensures.slot.askers

@@ -1,0 +1,14 @@
+use Rattle.std.proofs.Common.{◌≡◌, Some, IsTrue, sym, ap, ◌∙◌, subst}
+use Rattle.simplex.specs.Simplex.{is_simplex}
+use Rattle.facet_set.specs.Flips.{link_vertices}
+use Rattle.face_lattice.specs.Lattice.{LatticeState, id_in}
+use Rattle.face_lattice.specs.Slots.{cell_at, id_of}
+use Rattle.face_lattice.proofs.ReadLaws.{up_or, read_of}
+use Rattle.face_lattice.proofs.lattice.Lattice.up_of.Goals as goal
+
+pub returns : goal.returns
+returns c = λ s h.
+    let v = c.self.inside.slab in
+    let there : id_of v s ≡ Some c.args.id = ap (λ (l : LatticeState). id_in l s) c.self.view_is ∙ h in
+    let st = subst (λ t. IsTrue (is_simplex t)) (c.slot-slot.ensures.face s there) c.len.ensures.simplex in
+    c.up.ensures ∙ ap up_or (sym (c.slot-slot.ensures.cell s there)) ∙ (read_of _ (cell_at v) s c.self.invariant.kept.cells st).up_is ∙ ap (λ (l : LatticeState). link_vertices l.facets s) c.self.view_is

@@ -1,0 +1,5 @@
+pub mod Askers
+pub mod Laws
+pub mod Plans
+pub mod Steps
+pub mod Turns

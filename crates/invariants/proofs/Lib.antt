@@ -1,0 +1,12 @@
+pub mod Between
+pub mod Boundary
+pub mod Classes
+pub mod Closed
+pub mod Components
+pub mod Degrees
+pub mod Euler
+pub mod Renames
+pub mod Steps
+pub mod Sums
+pub mod Swaps
+pub mod Weights

@@ -1,0 +1,13 @@
+pub mod CellLaws
+pub mod DropLaws
+pub mod EulerLaws
+pub mod FaceListLaws
+pub mod GreedyLaws
+pub mod ListLaws
+pub mod MorseLaws
+pub mod OneLaws
+pub mod QueueLaws
+pub mod RankLaws
+pub mod StepLaws
+pub mod TableLaws
+pub mod UpLaws

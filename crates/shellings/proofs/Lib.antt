@@ -1,0 +1,13 @@
+pub mod CheckLaws
+pub mod FaceCounts
+pub mod GreedyLaws
+pub mod HVectorLaws
+pub mod IntervalLaws
+pub mod MissingLaws
+pub mod NearLaws
+pub mod PlaceLaws
+pub mod PlacementLaws
+pub mod RidgeLaws
+pub mod RowLaws
+pub mod StarLaws
+pub mod SubsetCounts
